@@ -1,0 +1,84 @@
+-- Laws of the lines.
+use mathlib.Core.Path.{_≡_, refl, sym, ap, _∙_}
+use mathlib.Core.Logic.{⊎-elim}
+use mathlib.Core.List.{List, [], _∷_, _++_}
+use Prim.Native.Nat.{ℕ, suc, _+_, _-_, _≤_, _<_}
+use native.Mathlib.Numerals.{add-one}
+use native.Mathlib.Omega.{arith}
+use denote.Ref.{RefT}
+use lib.Dec.{eqb}
+use lib.ListN.{length, getD, take, drop}
+use Rattle.std.proofs.shelf.Lists.{take-rest}
+use Rattle.std.proofs.shelf.Tests.{eq-eqb, ne-eqb, eqb-true, cases-bool, cond-true, cond-false, cond-both}
+use Rattle.std.specs.declared.option.Option.{Option}
+use Rattle.std.specs.declared.option.Option.the-variants.{Some, None}
+use Rattle.std.specs.declared.result.Result.{Result}
+use Rattle.std.specs.declared.result.Result.the-variants.{Ok, Err}
+use Rattle.faults.specs.declared.fault.Fault.{Fault}
+use Rattle.linkfile.specs.declared.line.Line.{Line}
+use Rattle.linkfile.specs.declared.line.Line.the-variants.{Routers, Rule, From, To, Weight, End}
+use Rattle.linkfile.specs.Lines.{bad, behind, apart, before, told, moved, counted, Lies, Lie, Parts, Answer-parts, seen}
+
+-- the bytes of the key stand at the front, from place n of the line on
+abbrev pub Front : List ℕ → ℕ → List ℕ → Type 0
+Front [] n body = Unit {0}
+Front (k ∷ key) n body = (getD body n 0 ≡ k) × Front key (suc n) body
+
+front-tail : (key : List ℕ) (n b : ℕ) (body : List ℕ) → Front key (suc n) (b ∷ body) → Front key n body
+front-tail [] n b body f = tt
+front-tail (k ∷ key) n b body f = (f .0, front-tail key (suc n) b body (f .1))
+
+behind-front : (key body : List ℕ) → length key ≤ length body → Front key 0 body → behind key body ≡ Some (drop (length key) body)
+behind-front [] body l f = refl
+behind-front (k ∷ key) [] l f = absurd (omega arith)
+behind-front (k ∷ key) (b ∷ body) l f = rw (eq-eqb b k (f .0), behind) (behind-front key body (omega arith) (front-tail key 0 b body (f .1)))
+
+-- a slice pattern that names the bytes of a key sees the value behind them
+pub seen-behind : (key : List ℕ) (body value : RefT (List ℕ)) → length key ≤ length (body .now) → Front key 0 (body .now) → value .now ≡ take (length (body .now) - length key) (drop (length key) (body .now)) → value .ptr .0 ≡ body .ptr .0 → value .ptr .1 ≡ body .ptr .1 + length key → seen body (length key) (Some value) (behind key (body .now))
+seen-behind key body value l f v b o =
+    (ap Some (v ∙ take-rest (body .now) (length key)) ∙ sym (behind-front key (body .now) l f), record { block = b; offset = o })
+
+-- ---- the first byte b
+pub before-here : (b x : ℕ) (text : List ℕ) → x ≡ b → before b (x ∷ text) ≡ 0
+unfolding before
+before-here b x text e = cond-true (eqb x b) _ _ (eq-eqb x b e)
+
+pub before-on : (b x : ℕ) (text : List ℕ) → (x ≡ b → ⊥) → before b (x ∷ text) ≡ before b text + 1
+unfolding before
+before-on b x text e = cond-false (eqb x b) _ _ (ne-eqb x b e) ∙ sym (add-one (before b text))
+
+pub before-none : (b : ℕ) → before b [] ≡ 0
+unfolding before
+before-none b = refl
+
+pub before-le : (b : ℕ) (text : List ℕ) → before b text ≤ length text
+unfolding before
+before-le b [] = omega arith
+before-le b (x ∷ text) = let ih = before-le b text in cond-both (eqb x b) 0 (suc (before b text)) (λ n. n ≤ suc (length text)) (λ _. omega arith) (λ _. omega arith)
+
+-- ---- the first line of a text
+module _ (text : List ℕ) (line : ℕ) where
+  pub unended : before 10 text ≡ length text → (told text line ≡ Err (bad line)) × (moved text ≡ 0) × (counted text ≡ 0)
+  unended e = let t = eq-eqb (before 10 text) (length text) e in (cond-true _ _ _ t, cond-true _ _ _ t, cond-true _ _ _ t)
+
+  pub ended : (before 10 text ≡ length text → ⊥) → (told text line ≡ apart (take (before 10 text) text) line) × (moved text ≡ before 10 text + 1) × (counted text ≡ 1)
+  ended e = let t = ne-eqb (before 10 text) (length text) e in (cond-false _ _ _ t, cond-false _ _ _ t, cond-false _ _ _ t)
+
+-- ---- parts of a part are parts of the text
+lie-moved : (text body key value : RefT (List ℕ)) (place : ℕ) → Lies text body place → Lie body 0 key value → Lie text place key value
+lie-moved text body key value place b l = record {
+  key-lies = record { block = l .key-lies .block ∙ b .block; offset = omega (arith, l .key-lies .offset, b .offset) };
+  value-lies = record { block = l .value-lies .block ∙ b .block; offset = omega (arith, l .value-lies .offset, b .offset) };
+}
+
+parts-moved : (text body : RefT (List ℕ)) (place : ℕ) → Lies text body place → (l : Line) → Parts body 0 l → Parts text place l
+parts-moved text body place b (Routers key value line) p = lie-moved text body key value place b p
+parts-moved text body place b (Rule key value line) p = lie-moved text body key value place b p
+parts-moved text body place b (From key value line) p = lie-moved text body key value place b p
+parts-moved text body place b (To key value line) p = lie-moved text body key value place b p
+parts-moved text body place b (Weight key value line) p = lie-moved text body key value place b p
+parts-moved text body place b (End key value line) p = lie-moved text body key value place b p
+
+pub answer-parts-moved : (text body : RefT (List ℕ)) (place : ℕ) → Lies text body place → (r : Result Line Fault) → Answer-parts body 0 r → Answer-parts text place r
+answer-parts-moved text body place b (Ok l) p = parts-moved text body place b l p
+answer-parts-moved text body place b (Err f) p = tt

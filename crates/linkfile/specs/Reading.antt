@@ -1,0 +1,31 @@
+-- Where a reader stands in its text, and what it reads there.
+use mathlib.Core.Bool.{Bool, cond}
+use mathlib.Core.List.{List}
+use Prim.Native.Nat.{ℕ, _+_}
+use denote.Ref.{RefT}
+use lib.ListN.{drop}
+use Rattle.std.specs.declared.result.Result.{Result}
+use Rattle.faults.specs.declared.fault.Fault.{Fault}
+use Rattle.linkfile.specs.declared.reader.Reader.{Reader}
+use Rattle.linkfile.specs.Lines.{Said, told, moved, counted}
+
+-- the text, the place of its next byte and the number of its next line
+pub record Standing : Type 0 where
+  pub text : RefT (List ℕ)
+  pub place : ℕ
+  pub line : ℕ
+
+abbrev pub stands : Reader → Standing
+stands r = record { text = r .text; place = r .at; line = r .line }
+
+-- what is left of the text
+abbrev pub left : Standing → List ℕ
+left s = drop (s .place) (s .text .now)
+
+-- the next line
+abbrev pub next-said : Standing → Result Said Fault
+next-said s = told (left s) (s .line)
+
+-- where the reader stands behind it
+abbrev pub onward : Standing → Standing
+onward s = record { text = s .text; place = s .place + moved (left s); line = s .line + counted (left s) }

@@ -1,0 +1,8 @@
+// The link file: a reader that walks over the lent text and copies none of it.
+pub mod keys;
+pub mod line;
+pub mod next_line;
+pub mod reader;
+
+pub use line::Line;
+pub use reader::Reader;
