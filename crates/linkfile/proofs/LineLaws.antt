@@ -1,7 +1,7 @@
 -- Laws of the lines.
-use mathlib.Core.Path.{_≡_, refl, sym, ap, _∙_}
+use mathlib.Core.Path.{_≡_, refl, sym, ap, subst, _∙_}
 use mathlib.Core.Logic.{⊎-elim}
-use mathlib.Core.List.{List, [], _∷_, _++_}
+use mathlib.Core.List.{List, [], _∷_, _++_, append-assoc}
 use Prim.Native.Nat.{ℕ, suc, _+_, _-_, _≤_, _<_}
 use native.Mathlib.Numerals.{add-one}
 use native.Mathlib.Omega.{arith}
@@ -9,7 +9,7 @@ use denote.Ref.{RefT}
 use lib.Dec.{eqb}
 use lib.ListN.{length, getD, take, drop}
 use Rattle.std.proofs.shelf.Lists.{take-rest}
-use Rattle.std.proofs.shelf.Tests.{eq-eqb, ne-eqb, eqb-true, cases-bool, cond-true, cond-false, cond-both}
+use Rattle.std.proofs.shelf.Tests.{eq-eqb, ne-eqb, eqb-true, cases-bool, cases-eq, cond-true, cond-false, cond-both}
 use Rattle.std.specs.declared.option.Option.{Option}
 use Rattle.std.specs.declared.option.Option.the-variants.{Some, None}
 use Rattle.std.specs.declared.result.Result.{Result}
@@ -17,7 +17,7 @@ use Rattle.std.specs.declared.result.Result.the-variants.{Ok, Err}
 use Rattle.faults.specs.declared.fault.Fault.{Fault}
 use Rattle.linkfile.specs.declared.line.Line.{Line}
 use Rattle.linkfile.specs.declared.line.Line.the-variants.{Routers, Rule, From, To, Weight, End}
-use Rattle.linkfile.specs.Lines.{bad, behind, apart, before, told, moved, counted, Lies, Lie, Parts, Answer-parts, seen}
+use Rattle.linkfile.specs.Lines.{Key, routers, rule, from, to, weight, end, spelling, Said, bad, valued, keyed, behind, apart, before, told, moved, counted, Lies, Lie, Parts, Answer-parts, seen}
 
 -- the bytes of the key stand at the front, from place n of the line on
 abbrev pub Front : List ℕ → ℕ → List ℕ → Type 0
@@ -82,3 +82,44 @@ parts-moved text body place b (End key value line) p = lie-moved text body key v
 pub answer-parts-moved : (text body : RefT (List ℕ)) (place : ℕ) → Lies text body place → (r : Result Line Fault) → Answer-parts body 0 r → Answer-parts text place r
 answer-parts-moved text body place b (Ok l) p = parts-moved text body place b l p
 answer-parts-moved text body place b (Err f) p = tt
+
+-- ---- a line that is taken apart is its key, the byte `=` and its value
+behind-is : (key body value : List ℕ) → behind key body ≡ Some value → body ≡ key ++ value
+behind-is [] body value e = cc
+behind-is (k ∷ key) [] value e = let z : _≡_ {A = ℕ} 0 1 = cc in absurd (omega arith)
+behind-is (k ∷ key) (b ∷ body) value e =
+    ⊎-elim
+    (λ h. λ i. eqb-true b k h i ∷ behind-is key body value (sym (cond-true (eqb b k) _ _ h) ∙ e) i)
+    (λ h. let z : _≡_ {A = Option (List ℕ)} (Some value) None = sym e ∙ cond-false (eqb b k) _ _ h in let y : _≡_ {A = ℕ} 0 1 = cc in absurd (omega arith))
+    (cases-bool (eqb b k))
+
+pub record Spelt (body : List ℕ) (line : ℕ) (s : Said) : Type 0 where
+  pub bytes : body ≡ spelling (s .kind) ++ 61 ∷ s .value
+  pub key-is : s .key ≡ spelling (s .kind)
+  pub line-is : s .line ≡ line
+
+abbrev Answer-spelt : List ℕ → ℕ → Result Said Fault → Type 0
+Answer-spelt body line (Ok s) = Spelt body line s
+Answer-spelt body line (Err f) = Unit {0}
+
+valued-spelt : (k : Key) (body : List ℕ) (line : ℕ) (o : Option (List ℕ)) (other : Result Said Fault) → behind (spelling k ++ 61 ∷ []) body ≡ o → Answer-spelt body line other → Answer-spelt body line (valued k line o other)
+valued-spelt k body line (Some value) other e h = record { bytes = behind-is (spelling k ++ 61 ∷ []) body value e ∙ append-assoc (spelling k) (61 ∷ []) value; key-is = refl; line-is = refl }
+valued-spelt k body line None other e h = h
+
+keyed-spelt : (ks : List Key) (body : List ℕ) (line : ℕ) → Answer-spelt body line (keyed ks body line)
+keyed-spelt [] body line = tt
+keyed-spelt (k ∷ ks) body line = valued-spelt k body line (behind (spelling k ++ 61 ∷ []) body) (keyed ks body line) refl (keyed-spelt ks body line)
+
+pub apart-spelt : (body : List ℕ) (line : ℕ) (s : Said) → Ok s ≡ apart body line → Spelt body line s
+apart-spelt body line s e = subst (Answer-spelt body line) (sym e) (keyed-spelt (routers ∷ rule ∷ from ∷ to ∷ weight ∷ end ∷ []) body line)
+
+-- a line that was told is ended
+pub told-ends : (text : List ℕ) (line : ℕ) (s : Said) → Ok s ≡ told text line → (before 10 text ≡ length text → ⊥) × (Ok s ≡ apart (take (before 10 text) text) line)
+told-ends text line s e =
+    ⊎-elim
+    (λ u. let z : _≡_ {A = Result Said Fault} (Ok s) (Err (bad line)) = e ∙ unended text line u .0 in let y : _≡_ {A = ℕ} 0 1 = cc in absurd (omega arith))
+    (λ u. (u, e ∙ ended text line u .0))
+    (cases-eq (before 10 text) (length text))
+
+pub told-spelt : (text : List ℕ) (line : ℕ) (s : Said) → Ok s ≡ told text line → Spelt (take (before 10 text) text) line s
+told-spelt text line s e = apart-spelt (take (before 10 text) text) line s (told-ends text line s e .1)

@@ -63,17 +63,18 @@ behind [] body = Some body
 behind (k ∷ key) [] = None
 behind (k ∷ key) (b ∷ body) = cond (eqb b k) (behind key body) None
 
-abbrev valued : Key → ℕ → Option (List ℕ) → Result Said Fault → Result Said Fault
+abbrev pub valued : Key → ℕ → Option (List ℕ) → Result Said Fault → Result Said Fault
 valued k line (Some value) other = Ok (record { kind = k; key = spelling k; value = value; line = line })
 valued k line None other = other
 
--- a line that begins with the key and `=`, or else another
-abbrev pub keyed : Key → List ℕ → ℕ → Result Said Fault → Result Said Fault
-keyed k body line other = valued k line (behind (spelling k ++ 61 ∷ []) body) other
+-- the first of these keys that the line begins with, the byte `=` behind it
+abbrev pub keyed : List Key → List ℕ → ℕ → Result Said Fault
+keyed [] body line = Err (bad line)
+keyed (k ∷ ks) body line = valued k line (behind (spelling k ++ 61 ∷ []) body) (keyed ks body line)
 
 -- a line without its byte 10, taken apart
 abbrev pub apart : List ℕ → ℕ → Result Said Fault
-apart body line = keyed routers body line (keyed rule body line (keyed from body line (keyed to body line (keyed weight body line (keyed end body line (Err (bad line)))))))
+apart body line = keyed (routers ∷ rule ∷ from ∷ to ∷ weight ∷ end ∷ []) body line
 
 -- how many bytes stand before the first b
 unfoldable pub before : ℕ → List ℕ → ℕ

@@ -1,8 +1,6 @@
 -- Where a reader stands in its text, and what it reads there.
-use mathlib.Core.Bool.{Bool, cond}
 use mathlib.Core.List.{List}
 use Prim.Native.Nat.{ℕ, _+_}
-use denote.Ref.{RefT}
 use lib.ListN.{drop}
 use Rattle.std.specs.declared.result.Result.{Result}
 use Rattle.faults.specs.declared.fault.Fault.{Fault}
@@ -11,16 +9,20 @@ use Rattle.linkfile.specs.Lines.{Said, told, moved, counted}
 
 -- the text, the place of its next byte and the number of its next line
 pub record Standing : Type 0 where
-  pub text : RefT (List ℕ)
+  pub text : List ℕ
   pub place : ℕ
   pub line : ℕ
 
 abbrev pub stands : Reader → Standing
-stands r = record { text = r .text; place = r .at; line = r .line }
+stands r = record { text = r .text .now; place = r .at; line = r .line }
+
+-- before the first line of a text
+abbrev pub start : List ℕ → Standing
+start text = record { text = text; place = 0; line = 1 }
 
 -- what is left of the text
 abbrev pub left : Standing → List ℕ
-left s = drop (s .place) (s .text .now)
+left s = drop (s .place) (s .text)
 
 -- the next line
 abbrev pub next-said : Standing → Result Said Fault

@@ -7,7 +7,7 @@ use faults::Fault;
 use faults::Refusal;
 
 // The fault of a line that breaks the file's form.
-pub(crate) fn bad_line(line: usize) -> Fault
+pub fn bad_line(line: usize) -> Fault
     ensures { λ r. ⌜ r ≡ bad line ⌝ }
 {
     Fault::Reader {

@@ -1,6 +1,6 @@
 ghost use mathlib.Core.Path.{_≡_};
 ghost use Rattle.linkfile.specs.Lines.{before, answered, Answer-parts};
-ghost use Rattle.linkfile.specs.Reading.{stands, next-said, onward};
+ghost use Rattle.linkfile.specs.Reading.{stands, start, next-said, onward};
 use crate::keys::bad_line;
 use crate::keys::take_apart;
 use crate::line::Line;
@@ -22,7 +22,8 @@ fn find(text: &[u8], b: u8) -> usize
 impl<'a> Reader<'a> {
     // A reader that stands before the first line.
     pub fn new(text: &'a [u8]) -> Reader<'a>
-        ensures { λ r. ⌜ stands r ≡ record { text = text .entry; place = 0; line = 1 } ⌝ }
+        ensures text { λ r. ⌜ r .text ≡ text .entry ⌝ }
+        ensures reader { λ r. ⌜ stands r ≡ start (now (text .entry)) ⌝ }
     {
         Reader {
             text,
@@ -35,6 +36,7 @@ impl<'a> Reader<'a> {
     // line is missing or unended it stays.
     pub fn next_line(&mut self) -> Result<Line<'a>, Fault>
         ensures answer { λ r. ⌜ answered r ≡ next-said (stands (now (self .entry))) ⌝ }
+        ensures text { λ _. ⌜ now (self .exit) .text ≡ now (self .entry) .text ⌝ }
         ensures parts { λ r. ⌜ Answer-parts (now (self .entry) .text) (now (self .entry) .at) r ⌝ }
         ensures reader { λ _. ⌜ stands (now (self .exit)) ≡ onward (stands (now (self .entry))) ⌝ }
     {

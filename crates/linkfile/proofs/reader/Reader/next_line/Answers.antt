@@ -3,7 +3,6 @@ use mathlib.Core.List.{List}
 use Prim.Native.Nat.{ℕ, _+_, _-_, _<_}
 use native.Mathlib.Nat.{sub-zero}
 use native.Mathlib.Omega.{arith}
-use denote.Ref.{RefT}
 use lib.ListN.{length, take, drop, length-drop}
 use Rattle.std.proofs.shelf.Lists.{take-rest}
 use Rattle.std.specs.declared.result.Result.the-variants.{Err}
@@ -13,7 +12,7 @@ use Rattle.linkfile.proofs.LineLaws.{before-le, unended, ended, answer-parts-m
 use Rattle.linkfile.proofs.reader.Reader.next_line.Needs as need
 
 -- where the reader stands, field by field
-stood : (text : RefT (List ℕ)) (at line : ℕ) (rest : List ℕ) (place next : ℕ) → place ≡ at + moved rest → next ≡ line + counted rest → _≡_ {A = Standing} (record { text = text; place = place; line = next }) (record { text = text; place = at + moved rest; line = line + counted rest })
+stood : (text : List ℕ) (at line : ℕ) (rest : List ℕ) (place next : ℕ) → place ≡ at + moved rest → next ≡ line + counted rest → _≡_ {A = Standing} (record { text = text; place = place; line = next }) (record { text = text; place = at + moved rest; line = line + counted rest })
 stood text at line rest place next p l = λ i. record { text = text; place = p i; line = l i }
 
 pub returns-then-len-rest : need.returns-then-len-rest
@@ -24,8 +23,9 @@ returns-then-len-rest c =
     let (answer, place, count) = unended (drop (reader .at) text) (reader .line) (sym (c .find-len .ensures ∙ ap (before 10) same) ∙ c .if-len-rest .taken ∙ ap length same) in
     record {
       answer = ap Err (c .bad-line .ensures) ∙ sym answer;
+      text = refl;
       parts = tt;
-      reader = stood (reader .text) (reader .at) (reader .line) (drop (reader .at) text) _ _ (omega (arith, place)) (omega (arith, count));
+      reader = stood text (reader .at) (reader .line) (drop (reader .at) text) _ _ (omega (arith, place)) (omega (arith, count));
     }
 
 -- the line's byte 10 stands within the text
@@ -59,6 +59,7 @@ returns c =
     let body : take (c .find-len .result - 0) (take (length (text .now) - at) rest) ≡ take (before 10 rest) rest = λ i. take ((sub-zero (c .find-len .result) ∙ n) i) (same i) in
     record {
       answer = c .take-apart .ensures .answer ∙ ap (λ b. apart b line) body ∙ sym (more .0);
+      text = refl;
       parts = answer-parts-moved text _ at (record { block = refl; offset = omega arith }) (c .take-apart .result) (c .take-apart .ensures .parts);
-      reader = stood text at line rest _ _ (omega (arith, more .1, n)) (omega (arith, more .2));
+      reader = stood (text .now) at line rest _ _ (omega (arith, more .1, n)) (omega (arith, more .2));
     }
