@@ -57,7 +57,7 @@ pub add-many : need.add-many
 add-many c =
     let t = turn c in
     let s = c .args .reader .now in
-    omega (arith, t .less, c .loop-many .inv .2, length-drop (s .at) (s .text .now), c .good)
+    omega (arith, t .less, c .loop-many .inv .2, length-drop (s .at) (s .text .now))
 
 pub loop-many-again : need.loop-many-again
 loop-many-again c =
