@@ -1,4 +1,2 @@
 pub mod Lines
 pub mod Reading
-pub mod Directions
-pub mod Files

@@ -1,7 +1,10 @@
 -- Where a reader stands in its text, and what it reads there.
+use mathlib.Core.Bool.{Bool}
 use mathlib.Core.List.{List}
 use Prim.Native.Nat.{ℕ, _+_}
-use lib.ListN.{drop}
+use denote.Ref.{RefT}
+use lib.Dec.{eqb}
+use lib.ListN.{length, drop}
 use Rattle.std.specs.declared.result.Result.{Result}
 use Rattle.faults.specs.declared.fault.Fault.{Fault}
 use Rattle.linkfile.specs.declared.reader.Reader.{Reader}
@@ -16,6 +19,10 @@ pub record Standing : Type 0 where
 abbrev pub stands : Reader → Standing
 stands r = record { text = r .text .now; place = r .at; line = r .line }
 
+-- the text as it was lent
+abbrev pub lent : Reader → RefT (List ℕ)
+lent r = r .text
+
 -- before the first line of a text
 abbrev pub start : List ℕ → Standing
 start text = record { text = text; place = 0; line = 1 }
@@ -23,6 +30,10 @@ start text = record { text = text; place = 0; line = 1 }
 -- what is left of the text
 abbrev pub left : Standing → List ℕ
 left s = drop (s .place) (s .text)
+
+-- whether nothing is
+abbrev pub done : Standing → Bool
+done s = eqb (s .place) (length (s .text))
 
 -- the next line
 abbrev pub next-said : Standing → Result Said Fault

@@ -1,7 +1,8 @@
 // A line is taken apart by its first bytes, one key to a function.
 ghost use mathlib.Core.Path.{_≡_};
 ghost use lib.Chars.{codes};
-ghost use Rattle.linkfile.specs.Lines.{bad, behind, seen, answered, Answer-parts, apart};
+ghost use Rattle.std.specs.shelf.Text.{sameBytes};
+ghost use Rattle.linkfile.specs.Lines.{bad, behind, seen, said, answered, Answer-parts, apart};
 use crate::line::Line;
 use faults::Fault;
 use faults::Refusal;
@@ -14,6 +15,13 @@ pub fn bad_line(line: usize) -> Fault
         refusal: Refusal::BadLine,
         line,
     }
+}
+
+// Whether these are the same bytes.
+pub fn same(a: &[u8], b: &[u8]) -> bool
+    ensures { λ r. ⌜ r ≡ sameBytes (now (a .entry)) (now (b .entry)) ⌝ }
+{
+    a == b
 }
 
 fn routers_value(body: &[u8]) -> Option<&[u8]>
@@ -95,5 +103,21 @@ pub(crate) fn take_apart<'a>(body: &'a [u8], line: usize) -> Result<Line<'a>, Fa
         Ok(Line::End { key, value, line })
     } else {
         Err(bad_line(line))
+    }
+}
+
+impl<'a> Line<'a> {
+    // The line's number.
+    pub fn number(self) -> usize
+        ensures { λ r. ⌜ r ≡ said (self .entry) .line ⌝ }
+    {
+        match self {
+            Line::Routers { line, .. } => line,
+            Line::Rule { line, .. } => line,
+            Line::From { line, .. } => line,
+            Line::To { line, .. } => line,
+            Line::Weight { line, .. } => line,
+            Line::End { line, .. } => line,
+        }
     }
 }

@@ -1,13 +1,10 @@
-// The link file: a reader that walks over the lent text and copies none of it.
-pub mod contents;
-pub mod direction;
+// The lines of a link file: a reader that walks over the lent text and copies none of it.
 pub mod keys;
 pub mod line;
 pub mod next_line;
 pub mod reader;
 
-pub use contents::same;
-pub use direction::Direction;
 pub use keys::bad_line;
+pub use keys::same;
 pub use line::Line;
 pub use reader::Reader;

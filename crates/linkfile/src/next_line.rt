@@ -1,6 +1,6 @@
 ghost use mathlib.Core.Path.{_≡_};
 ghost use Rattle.linkfile.specs.Lines.{before, answered, Answer-parts};
-ghost use Rattle.linkfile.specs.Reading.{stands, start, next-said, onward};
+ghost use Rattle.linkfile.specs.Reading.{stands, lent, start, next-said, done, onward};
 use crate::keys::bad_line;
 use crate::keys::take_apart;
 use crate::line::Line;
@@ -22,7 +22,7 @@ fn find(text: &[u8], b: u8) -> usize
 impl<'a> Reader<'a> {
     // A reader that stands before the first line.
     pub fn new(text: &'a [u8]) -> Reader<'a>
-        ensures text { λ r. ⌜ r .text ≡ text .entry ⌝ }
+        ensures text { λ r. ⌜ lent r ≡ text .entry ⌝ }
         ensures reader { λ r. ⌜ stands r ≡ start (now (text .entry)) ⌝ }
     {
         Reader {
@@ -36,8 +36,8 @@ impl<'a> Reader<'a> {
     // line is missing or unended it stays.
     pub fn next_line(&mut self) -> Result<Line<'a>, Fault>
         ensures answer { λ r. ⌜ answered r ≡ next-said (stands (now (self .entry))) ⌝ }
-        ensures text { λ _. ⌜ now (self .exit) .text ≡ now (self .entry) .text ⌝ }
-        ensures parts { λ r. ⌜ Answer-parts (now (self .entry) .text) (now (self .entry) .at) r ⌝ }
+        ensures text { λ _. ⌜ lent (now (self .exit)) ≡ lent (now (self .entry)) ⌝ }
+        ensures parts { λ r. ⌜ Answer-parts (lent (now (self .entry))) (stands (now (self .entry)) .place) r ⌝ }
         ensures reader { λ _. ⌜ stands (now (self .exit)) ≡ onward (stands (now (self .entry))) ⌝ }
     {
         let line = self.line;
@@ -50,5 +50,19 @@ impl<'a> Reader<'a> {
         self.at = self.at + len + 1;
         self.line = line + 1;
         take_apart(&rest[0..len], line)
+    }
+
+    // The number of the next line.
+    pub fn next_number(&self) -> usize
+        ensures { λ r. ⌜ r ≡ stands (now (self .entry)) .line ⌝ }
+    {
+        self.line
+    }
+
+    // Whether nothing is left of the text.
+    pub fn is_done(&self) -> bool
+        ensures { λ r. ⌜ r ≡ done (stands (now (self .entry))) ⌝ }
+    {
+        self.at == self.text.len()
     }
 }

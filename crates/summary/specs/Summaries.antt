@@ -9,8 +9,8 @@ use Rattle.std.specs.declared.result.Result.the-variants.{Ok, Err}
 use Rattle.faults.specs.declared.fault.Fault.{Fault}
 use Rattle.linkfile.specs.Lines.{routers, rule, bad}
 use Rattle.linkfile.specs.Reading.{Standing, start, onward}
-use Rattle.linkfile.specs.Directions.{and-then, next-value, next-number}
-use Rattle.linkfile.specs.Files.{Listing, list-all}
+use Rattle.directions.specs.Directions.{and-then, next-value, next-number}
+use Rattle.directions.specs.Files.{Listing, list-all}
 use Rattle.summary.specs.declared.names.RuleName.{RuleName}
 use Rattle.summary.specs.declared.outcome.Summary.{Summary}
 use Rattle.summary.specs.Rules.{named}

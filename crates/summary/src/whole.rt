@@ -1,10 +1,13 @@
 ghost use mathlib.Core.Path.{_≡_};
 ghost use Rattle.linkfile.specs.Reading.{stands, onward};
-ghost use Rattle.linkfile.specs.Files.{list-all};
+ghost use Rattle.directions.specs.Files.{list-all};
 ghost use Rattle.summary.specs.Rules.{spelt, named};
 ghost use Rattle.summary.specs.Summaries.{next-rule, how-many, summary};
 use crate::names::RuleName;
 use crate::outcome::Summary;
+use directions::next_direction;
+use directions::read_routers;
+use directions::read_rule;
 use faults::Fault;
 use linkfile::Reader;
 use linkfile::bad_line;
@@ -41,7 +44,7 @@ fn read_rule_name(reader: &mut Reader) -> Result<RuleName, Fault>
     ensures reader { λ _. ⌜ stands (now (reader .exit)) ≡ onward (stands (now (reader .entry))) ⌝ }
 {
     let line = reader.next_number();
-    let name = reader.read_rule()?;
+    let name = read_rule(reader)?;
     match RuleName::named(name) {
         Some(rule) => Ok(rule),
         None => Err(bad_line(line)),
@@ -53,7 +56,7 @@ fn count_directions(reader: &mut Reader) -> Result<usize, Fault>
     ensures { λ r. ⌜ r ≡ how-many (list-all (stands (now (reader .entry)))) ⌝ }
 {
     let mut many = 0;
-    while let Some(_) = reader.next_direction()? {
+    while let Some(_) = next_direction(reader)? {
         many += 1;
     }
     Ok(many)
@@ -64,7 +67,7 @@ pub fn summarize(text: &[u8]) -> Result<Summary, Fault>
     ensures { λ r. ⌜ r ≡ summary (now (text .entry)) ⌝ }
 {
     let mut reader = Reader::new(text);
-    let routers = reader.read_routers()?;
+    let routers = read_routers(&mut reader)?;
     let rule = read_rule_name(&mut reader)?;
     let directions = count_directions(&mut reader)?;
     Ok(Summary {

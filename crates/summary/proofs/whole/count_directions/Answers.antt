@@ -7,11 +7,11 @@ use Rattle.std.specs.declared.option.Option.the-variants.{Some, None}
 use Rattle.std.specs.declared.result.Result.{Result}
 use Rattle.std.specs.declared.result.Result.the-variants.{Ok, Err}
 use Rattle.faults.specs.declared.fault.Fault.{Fault}
-use Rattle.linkfile.specs.declared.direction.Direction.{Direction}
+use Rattle.directions.specs.declared.direction.Direction.{Direction}
 use Rattle.linkfile.specs.Reading.{Standing, stands, left}
-use Rattle.linkfile.specs.Directions.{and-then, direction-read}
-use Rattle.linkfile.specs.Files.{Listing, list-all}
-use Rattle.linkfile.proofs.FileLaws.{direction-less, list-all-some, list-all-none, list-all-err}
+use Rattle.directions.specs.Directions.{and-then, direction-read}
+use Rattle.directions.specs.Files.{Listing, list-all}
+use Rattle.directions.proofs.FileLaws.{direction-less, list-all-some, list-all-none, list-all-err}
 use Rattle.summary.specs.Summaries.{how-many}
 use Rattle.summary.proofs.whole.count_directions.Needs as need
 
@@ -32,7 +32,7 @@ counted s t d e stood =
     }
 
 -- what a turn counted
-turn : (c : need.In-Some) → Counted (stands (c .loop-many .reader)) (stands (c .next-direction .last .self))
+turn : (c : need.In-Some) → Counted (stands (c .loop-many .reader)) (stands (c .next-direction .last .reader))
 turn c =
     let line = c .in-Continue-next-direction .ensures tt in
     counted _ _ (c .in-Some .field-0) (ap Ok (sym (c .in-Some .is)) ∙ line .answer) (line .reader)

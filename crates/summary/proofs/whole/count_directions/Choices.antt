@@ -2,7 +2,7 @@ use mathlib.Core.Path.{_≡_}
 use Prim.Native.Nat.{_+_, _≤_}
 use lib.ListN.{length}
 use Rattle.linkfile.specs.Reading.{stands, left}
-use Rattle.linkfile.specs.Files.{list-all}
+use Rattle.directions.specs.Files.{list-all}
 use Rattle.summary.proofs.whole.count_directions.Given as given
 
 -- what was counted and what is left make up the whole

@@ -5,8 +5,7 @@ use mathlib.Core.Path.{_≡_}
 use Prim.Native.Nat.{ℕ, _+_}
 use denote.Ref.{RefT}
 use lib.Chars.{codes}
-use lib.Dec.{eqb, ltb}
-use lib.ListN.{length}
+use lib.Dec.{eqb}
 use Rattle.std.specs.declared.option.Option.{Option}
 use Rattle.std.specs.declared.option.Option.the-variants.{Some, None}
 use Rattle.std.specs.declared.result.Result.{Result}
@@ -14,9 +13,9 @@ use Rattle.std.specs.declared.result.Result.the-variants.{Ok, Err}
 use Rattle.std.specs.shelf.Text.{sameBytes}
 use Rattle.faults.specs.declared.fault.Fault.{Fault}
 use Rattle.decimals.specs.Numbers.{numeral}
-use Rattle.linkfile.specs.declared.direction.Direction.{Direction}
+use Rattle.directions.specs.declared.direction.Direction.{Direction}
 use Rattle.linkfile.specs.Lines.{Key, routers, rule, from, to, weight, end, Said, bad, Lies}
-use Rattle.linkfile.specs.Reading.{Standing, next-said, onward}
+use Rattle.linkfile.specs.Reading.{Standing, next-said, onward, done}
 
 -- ---- one line
 -- the keys by their order in a file
@@ -74,7 +73,7 @@ rest-read a s =
 -- the value of `end` is `links`, and nothing stands behind it
 abbrev pub ending : List ℕ → ℕ → Standing → Result (Option Direction) Fault
 ending value line behind =
-    cond (sameBytes value (codes "links")) (cond (ltb (behind .place) (length (behind .text))) (Err (bad (behind .line))) (Ok None)) (Err (bad line))
+    cond (sameBytes value (codes "links")) (cond (done behind) (Ok None) (Err (bad (behind .line)))) (Err (bad line))
 
 abbrev pub one-direction : Reading Direction → Reading (Option Direction)
 one-direction r = go-on (r .answer) (r .standing) (λ d. record { answer = Ok (Some d); standing = r .standing })

@@ -11,12 +11,12 @@ use Rattle.std.specs.declared.result.Result.{Result}
 use Rattle.std.specs.declared.result.Result.the-variants.{Ok, Err}
 use Rattle.faults.specs.declared.fault.Fault.{Fault}
 use Rattle.decimals.specs.Numbers.{numeral}
-use Rattle.linkfile.specs.declared.direction.Direction.{Direction}
+use Rattle.directions.specs.declared.direction.Direction.{Direction}
 use Rattle.linkfile.specs.Lines.{from, to, weight, end, Said, bad, before, told, moved}
 use Rattle.linkfile.specs.Reading.{Standing, left, next-said, onward}
-use Rattle.linkfile.specs.Directions.{same-key, number-on, next-number, Reading, go-on, rest-read, ending, one-direction, begun, direction-read}
-use Rattle.linkfile.specs.Files.{Listing, list-on, listing, list-all}
+use Rattle.directions.specs.Directions.{same-key, number-on, next-number, Reading, go-on, rest-read, ending, one-direction, begun, direction-read}
+use Rattle.directions.specs.Files.{Listing, list-on, listing, list-all}
 use Rattle.linkfile.proofs.LineLaws.{before-le, unended, ended, told-ends}
 
 -- ---- what a reading leaves of the text
 onward-le : (s : Standing) → length (left (onward s)) ≤ length (left s)

@@ -7,10 +7,10 @@ use Rattle.std.specs.declared.option.Option.the-variants.{Some, None}
 use Rattle.std.specs.declared.result.Result.{Result}
 use Rattle.std.specs.declared.result.Result.the-variants.{Ok, Err}
 use Rattle.faults.specs.declared.fault.Fault.{Fault}
-use Rattle.linkfile.specs.declared.direction.Direction.{Direction}
+use Rattle.directions.specs.declared.direction.Direction.{Direction}
 use Rattle.linkfile.specs.Lines.{bad}
 use Rattle.linkfile.specs.Reading.{Standing, left}
-use Rattle.linkfile.specs.Directions.{direction-read}
+use Rattle.directions.specs.Directions.{direction-read}
 
 -- directions in turn, and how they end: at the end of the file, or by a fault
 pub record Listing : Type 0 where
