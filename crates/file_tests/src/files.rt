@@ -1,13 +1,13 @@
 use faults::Fault;
+use faults::Refusal;
 use faults::fault::FaultDebug as _;
 use faults::fault::FaultPartialEq as _;
-use faults::Refusal;
 use std::test::*;
 use summary::RuleName;
 use summary::Summary;
+use summary::judge;
 use summary::outcome::SummaryDebug as _;
 use summary::outcome::SummaryPartialEq as _;
-use summary::judge;
 use summary::summarize;
 
 // The file is granted, with this summary.
@@ -32,10 +32,25 @@ fn refused(text: &[u8], line: usize) -> Result<(), Fail> {
 #[test]
 fn good_files() -> Result<(), Fail> {
     granted(b"routers=2\nrule=sum\nend=links\n", 2, RuleName::Sum, 0)?;
-    granted(b"routers=32\nrule=hops-width\nend=links\n", 32, RuleName::HopsWidth, 0)?;
+    granted(
+        b"routers=32\nrule=hops-width\nend=links\n",
+        32,
+        RuleName::HopsWidth,
+        0,
+    )?;
     granted(b"routers=0\nrule=sum\nend=links\n", 0, RuleName::Sum, 0)?;
-    granted(b"routers=4294967295\nrule=sum\nend=links\n", 4294967295, RuleName::Sum, 0)?;
-    granted(b"routers=2\nrule=sum\nfrom=0\nto=1\nweight=7\nend=links\n", 2, RuleName::Sum, 1)?;
+    granted(
+        b"routers=4294967295\nrule=sum\nend=links\n",
+        4294967295,
+        RuleName::Sum,
+        0,
+    )?;
+    granted(
+        b"routers=2\nrule=sum\nfrom=0\nto=1\nweight=7\nend=links\n",
+        2,
+        RuleName::Sum,
+        1,
+    )?;
     granted(
         b"routers=2\nrule=sum\nfrom=0\nto=1\nweight=7\nfrom=1\nto=0\nweight=9\nend=links\n",
         2,
@@ -69,7 +84,10 @@ fn bytes_after_the_end() -> Result<(), Fail> {
     refused(b"routers=2\nrule=sum\nend=links\n\n", 4)?;
     refused(b"routers=2\nrule=sum\nend=links\nx", 4)?;
     refused(b"routers=2\nrule=sum\nend=links\n\0", 4)?;
-    refused(b"routers=2\nrule=sum\nfrom=0\nto=1\nweight=7\nend=links\nfrom=1\n", 7)
+    refused(
+        b"routers=2\nrule=sum\nfrom=0\nto=1\nweight=7\nend=links\nfrom=1\n",
+        7,
+    )
 }
 
 #[test]
@@ -91,8 +109,14 @@ fn lines_out_of_order() -> Result<(), Fail> {
     refused(b"rule=sum\nrouters=2\nend=links\n", 1)?;
     refused(b"routers=2\nrouters=2\nrule=sum\nend=links\n", 2)?;
     refused(b"routers=2\nend=links\n", 2)?;
-    refused(b"routers=2\nrule=sum\nto=1\nfrom=0\nweight=7\nend=links\n", 3)?;
-    refused(b"routers=2\nrule=sum\nfrom=0\nweight=7\nto=1\nend=links\n", 4)?;
+    refused(
+        b"routers=2\nrule=sum\nto=1\nfrom=0\nweight=7\nend=links\n",
+        3,
+    )?;
+    refused(
+        b"routers=2\nrule=sum\nfrom=0\nweight=7\nto=1\nend=links\n",
+        4,
+    )?;
     refused(b"routers=2\nrule=sum\nfrom=0\nto=1\nend=links\n", 5)?;
     refused(b"routers=2\nrule=sum\nweight=7\nend=links\n", 3)?;
     refused(b"routers=2\nrule=sum\nrule=sum\nend=links\n", 3)?;

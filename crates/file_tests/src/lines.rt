@@ -1,7 +1,7 @@
 use faults::Fault;
+use faults::Refusal;
 use faults::fault::FaultDebug as _;
 use faults::fault::FaultPartialEq as _;
-use faults::Refusal;
 use linkfile::Line;
 use linkfile::Reader;
 use std::test::*;

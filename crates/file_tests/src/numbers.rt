@@ -31,7 +31,10 @@ fn numbers_written() -> Result<(), Fail> {
     check_eq(write_number(&mut out, 11, 7), Ok(12))?;
     check_eq(write_number(&mut out, 11, 10), Err(Refusal::MemoryTooShort))?;
     check_eq(write_number(&mut out, 12, 0), Err(Refusal::MemoryTooShort))?;
-    check_eq(write_number(&mut out, usize::MAX, 0), Err(Refusal::MemoryTooShort))?;
+    check_eq(
+        write_number(&mut out, usize::MAX, 0),
+        Err(Refusal::MemoryTooShort),
+    )?;
     check(out == *b".42949672957")
 }
 
@@ -43,7 +46,10 @@ fn sets_written() -> Result<(), Fail> {
     check_eq(write_set(&mut out, 10, 0), Err(Refusal::MemoryTooShort))?;
     check_eq(write_set(&mut out, 1, 0x8000_0401), Ok(8))?;
     check(out == *b".0,10,31.")?;
-    check_eq(write_set(&mut out, 3, 0x8000_0401), Err(Refusal::MemoryTooShort))?;
+    check_eq(
+        write_set(&mut out, 3, 0x8000_0401),
+        Err(Refusal::MemoryTooShort),
+    )?;
     check(out == *b".0,10,31.")
 }
 

@@ -3,6 +3,7 @@ pub mod keys;
 pub mod line;
 pub mod next_line;
 pub mod reader;
+pub mod standing;
 
 pub use keys::bad_line;
 pub use keys::same;

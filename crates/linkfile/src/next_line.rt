@@ -1,6 +1,6 @@
 ghost use mathlib.Core.Path.{_≡_};
 ghost use Rattle.linkfile.specs.Lines.{before, answered, Answer-parts};
-ghost use Rattle.linkfile.specs.Reading.{stands, lent, start, next-said, done, onward};
+ghost use Rattle.linkfile.specs.Reading.{stands, lent, start, next-said, onward};
 use crate::keys::bad_line;
 use crate::keys::take_apart;
 use crate::line::Line;
@@ -50,19 +50,5 @@ impl<'a> Reader<'a> {
         self.at = self.at + len + 1;
         self.line = line + 1;
         take_apart(&rest[0..len], line)
-    }
-
-    // The number of the next line.
-    pub fn next_number(&self) -> usize
-        ensures { λ r. ⌜ r ≡ stands (now (self .entry)) .line ⌝ }
-    {
-        self.line
-    }
-
-    // Whether nothing is left of the text.
-    pub fn is_done(&self) -> bool
-        ensures { λ r. ⌜ r ≡ done (stands (now (self .entry))) ⌝ }
-    {
-        self.at == self.text.len()
     }
 }
