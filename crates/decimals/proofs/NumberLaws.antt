@@ -114,13 +114,13 @@ decimal-unpadded n h =
 pub reads-decimal : (bs : List ℕ) → Reads-decimal bs (numeral bs)
 reads-decimal bs = record {
   written = λ n e.
-    let (u, d, small, is) = numeral-some bs n e in
-    let (some, zero) = unpadded-first bs u in
-    sym (decimal-value own bs d some zero (omega arith)) ∙ ap decimal is;
+      let (u, d, small, is) = numeral-some bs n e in
+      let (some, zero) = unpadded-first bs u in
+      sym (decimal-value own bs d some zero (omega arith)) ∙ ap decimal is;
   bounded = λ n e. let (u, d, small, is) = numeral-some bs n e in omega arith;
   read = λ n small e.
-    let big : n < 2 ^ 64 = omega arith in
-    let is : value 0 (decimal n) ≡ n = value-decimal own n big in
-    let tests = and-from _ _ (decimal-unpadded n big) (and-from _ _ (digits-decimal own n big) (le-leb (value 0 (decimal n)) 4294967295 (omega arith))) in
-    ap numeral e ∙ cond-true _ _ _ tests ∙ ap Some is;
+      let big : n < 2 ^ 64 = omega arith in
+      let is : value 0 (decimal n) ≡ n = value-decimal own n big in
+      let tests = and-from _ _ (decimal-unpadded n big) (and-from _ _ (digits-decimal own n big) (le-leb (value 0 (decimal n)) 4294967295 (omega arith))) in
+      ap numeral e ∙ cond-true _ _ _ tests ∙ ap Some is;
 }

@@ -33,7 +33,10 @@ fn tell_summary(heap: Global, summary: Summary) -> Result<String, AllocError>
     let routers = summary.routers;
     let rule = summary.rule.name();
     let directions = summary.directions;
-    format!(heap, "routers={routers}\nrule={rule}\ndirections={directions}\n")
+    format!(
+        heap,
+        "routers={routers}\nrule={rule}\ndirections={directions}\n"
+    )
 }
 
 // The lines of a fault.
