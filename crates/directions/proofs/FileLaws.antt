@@ -52,7 +52,8 @@ begun-leaves n x s h =
     (λ _. cond-both (same-key end (x .kind)) _ _ first (λ _. h) (λ _. h))
 
 -- ---- the directions in turn
-read-by : Standing → Result Said Fault → Reading (Option Direction)
+-- the next direction by what its first line says
+unfoldable pub read-by : Standing → Result Said Fault → Reading (Option Direction)
 read-by s a = go-on a (onward s) (λ first. begun first (onward s))
 
 less-by : (s : Standing) (a : Result Said Fault) (d : Direction) → next-said s ≡ a → read-by s a .answer ≡ Ok (Some d) → length (left (read-by s a .standing)) < length (left s)

@@ -19,7 +19,7 @@ use Rattle.linkfile.specs.Reading.{Standing, next-said, onward, done}
 
 -- ---- one line
 -- the keys by their order in a file
-abbrev rank : Key → ℕ
+abbrev pub rank : Key → ℕ
 rank routers = 0
 rank rule = 1
 rank from = 2

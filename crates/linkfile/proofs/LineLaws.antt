@@ -7,8 +7,8 @@ use native.Mathlib.Numerals.{add-one}
 use native.Mathlib.Omega.{arith}
 use denote.Ref.{RefT}
 use lib.Dec.{eqb}
-use lib.ListN.{length, getD, take, drop}
-use Rattle.std.proofs.shelf.Lists.{take-rest}
+use lib.ListN.{length, getD, take, drop, length-append}
+use Rattle.std.proofs.shelf.Lists.{take-rest, take-at, drop-at}
 use Rattle.std.proofs.shelf.Tests.{eq-eqb, ne-eqb, eqb-true, cases-bool, cases-eq, cond-true, cond-false, cond-both}
 use Rattle.std.specs.declared.option.Option.{Option}
 use Rattle.std.specs.declared.option.Option.the-variants.{Some, None}
@@ -123,3 +123,72 @@ told-ends text line s e =
 
 pub told-spelt : (text : List ℕ) (line : ℕ) (s : Said) → Ok s ≡ told text line → Spelt (take (before 10 text) text) line s
 told-spelt text line s e = apart-spelt (take (before 10 text) text) line s (told-ends text line s e .1)
+
+-- ---- a text with no byte b, and a text up to its first one
+abbrev pub Lacks : ℕ → List ℕ → Type 0
+Lacks b text = before b text ≡ length text
+
+before-append : (b : ℕ) (text more : List ℕ) → Lacks b text → before b (text ++ more) ≡ length text + before b more
+before-append b [] more h = omega arith
+before-append b (x ∷ text) more h =
+    ⊎-elim
+    (λ e. absurd (omega (arith, before-here b x text e)))
+    (λ ne. let ih = before-append b text more (omega (arith, before-on b x text ne)) in omega (arith, before-on b x (text ++ more) ne))
+    (cases-eq x b)
+
+pub lacks-append : (b : ℕ) (text more : List ℕ) → Lacks b text → Lacks b more → Lacks b (text ++ more)
+lacks-append b text more h i = omega (arith, before-append b text more h, length-append text more)
+
+before-splits : (b : ℕ) (text : List ℕ) → (Lacks b text → ⊥) → text ≡ take (before b text) text ++ b ∷ drop (before b text + 1) text
+before-splits b [] h = absurd (h (before-none b))
+before-splits b (x ∷ text) h =
+    ⊎-elim
+    (λ e. rw (before-here b x text e) (ap (λ y. y ∷ text) e))
+    (λ ne. let on = before-on b x text ne in simp (on, add-one) (ap (λ t. x ∷ t) (simp add-one at (before-splits b text (λ l. h (omega arith))))))
+    (cases-eq x b)
+
+-- ---- a line that was told stands at the front of the text
+pub told-bytes : (text : List ℕ) (line : ℕ) (s : Said) → Ok s ≡ told text line → text ≡ spelling (s .kind) ++ 61 ∷ (s .value ++ 10 ∷ drop (moved text) text)
+told-bytes text line s e =
+    let u = told-ends text line s e .0 in
+    let rest = λ (n : ℕ). 10 ∷ drop n text in
+    before-splits 10 text u
+    ∙ ap (λ t. t ++ rest (before 10 text + 1)) (told-spelt text line s e .bytes)
+    ∙ append-assoc (spelling (s .kind)) (61 ∷ s .value) (rest (before 10 text + 1))
+    ∙ ap (λ n. spelling (s .kind) ++ 61 ∷ (s .value ++ rest n)) (sym (ended text line u .1))
+
+-- a line that stands there is told
+lacks-key : (k : Key) → Lacks 10 (spelling k ++ 61 ∷ [])
+unfolding before
+lacks-key routers = refl
+lacks-key rule = refl
+lacks-key from = refl
+lacks-key to = refl
+lacks-key weight = refl
+lacks-key end = refl
+
+apart-line : (k : Key) (value : List ℕ) (line : ℕ) → apart (spelling k ++ 61 ∷ value) line ≡ Ok (record { kind = k; key = spelling k; value = value; line = line })
+apart-line routers value line = refl
+apart-line rule value line = refl
+apart-line from value line = refl
+apart-line to value line = refl
+apart-line weight value line = refl
+apart-line end value line = refl
+
+told-body : (body more : List ℕ) (line : ℕ) → Lacks 10 body → (told (body ++ 10 ∷ more) line ≡ apart body line) × (drop (moved (body ++ 10 ∷ more)) (body ++ 10 ∷ more) ≡ more)
+told-body body more line h =
+    let text = body ++ 10 ∷ more in
+    let n : before 10 text ≡ length body = omega (arith, before-append 10 body (10 ∷ more) h, before-here 10 10 more refl) in
+    let (answer, place, count) = ended text line (λ e. omega (arith, length-append body (10 ∷ more))) in
+    let past : moved text ≡ length (body ++ 10 ∷ []) = omega (arith, length-append body (10 ∷ [])) in (
+      answer ∙ ap (λ j. apart (take j text) line) n ∙ ap (λ b. apart b line) (take-at body (10 ∷ more) (length body) refl),
+      ap (λ j. drop j text) past ∙ simp append-assoc at (drop-at (body ++ 10 ∷ []) more (length (body ++ 10 ∷ [])) refl),
+    )
+
+pub line-told : (k : Key) (value more text : List ℕ) (line : ℕ) → Lacks 10 value → text ≡ spelling k ++ 61 ∷ (value ++ 10 ∷ more) → (told text line ≡ Ok (record { kind = k; key = spelling k; value = value; line = line })) × (drop (moved text) text ≡ more)
+line-told k value more text line h e =
+    let body = spelling k ++ 61 ∷ value in
+    let clean : Lacks 10 body = subst (Lacks 10) (append-assoc (spelling k) (61 ∷ []) value) (lacks-append 10 (spelling k ++ 61 ∷ []) value (lacks-key k) h) in
+    let is : text ≡ body ++ 10 ∷ more = e ∙ sym (append-assoc (spelling k) (61 ∷ value) (10 ∷ more)) in
+    let (answer, rest) = told-body body more line clean in
+    (ap (λ t. told t line) is ∙ answer ∙ apart-line k value line, ap (λ t. drop (moved t) t) is ∙ rest)

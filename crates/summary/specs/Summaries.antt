@@ -1,7 +1,9 @@
 -- What a link file says, in short.
-use mathlib.Core.List.{List}
-use Prim.Native.Nat.{ℕ}
+use mathlib.Core.Path.{_≡_}
+use mathlib.Core.List.{List, _++_}
+use Prim.Native.Nat.{ℕ, _≤_}
 use lib.ListN.{length}
+use Rattle.std.specs.Written.{decimal}
 use Rattle.std.specs.declared.option.Option.{Option}
 use Rattle.std.specs.declared.option.Option.the-variants.{Some, None}
 use Rattle.std.specs.declared.result.Result.{Result}
@@ -10,10 +12,12 @@ use Rattle.faults.specs.declared.fault.Fault.{Fault}
 use Rattle.linkfile.specs.Lines.{routers, rule, bad}
 use Rattle.linkfile.specs.Reading.{Standing, start, onward}
 use Rattle.directions.specs.Directions.{and-then, next-value, next-number}
+use Rattle.directions.specs.declared.direction.Direction.{Direction}
 use Rattle.directions.specs.Files.{Listing, list-all}
+use Rattle.directions.specs.Written.{line-text, links-text, Numbered}
 use Rattle.summary.specs.declared.names.RuleName.{RuleName}
 use Rattle.summary.specs.declared.outcome.Summary.{Summary}
-use Rattle.summary.specs.Rules.{named}
+use Rattle.summary.specs.Rules.{spelt, named}
 
 -- a rule, or the fault on its line
 abbrev pub rule-on : ℕ → Option RuleName → Result RuleName Fault
@@ -35,3 +39,16 @@ summary text =
     (λ count. and-then (next-rule (onward (start text)))
     (λ name. and-then (how-many (list-all (onward (onward (start text)))))
     (λ many. Ok (record { routers = count; rule = name; directions = many }))))
+
+-- the bytes of a file with this summary
+pub record Is-file (text : List ℕ) (s : Summary) : Type 0 where
+  pub list : List Direction
+  pub bytes : text ≡ line-text routers (decimal (s .routers)) ++ (line-text rule (spelt (s .rule)) ++ links-text list)
+  pub fits : s .routers ≤ 4294967295
+  pub numbered : Numbered 3 list
+  pub counted : length list ≡ s .directions
+
+-- exactly the texts that are written so are granted, with that summary
+pub record Granted-exactly (text : List ℕ) (r : Result Summary Fault) : Type 0 where
+  pub granted : (s : Summary) → r ≡ Ok s → Is-file text s
+  pub files : (s : Summary) → Is-file text s → r ≡ Ok s

@@ -2,7 +2,7 @@ ghost use mathlib.Core.Path.{_≡_};
 ghost use Rattle.linkfile.specs.Reading.{stands, onward};
 ghost use Rattle.directions.specs.Files.{list-all};
 ghost use Rattle.summary.specs.Rules.{spelt, named};
-ghost use Rattle.summary.specs.Summaries.{next-rule, how-many, summary};
+ghost use Rattle.summary.specs.Summaries.{next-rule, how-many, summary, Granted-exactly};
 use crate::names::RuleName;
 use crate::outcome::Summary;
 use directions::next_direction;
@@ -64,7 +64,8 @@ fn count_directions(reader: &mut Reader) -> Result<usize, Fault>
 
 // Walks the link file to its end.
 pub fn summarize(text: &[u8]) -> Result<Summary, Fault>
-    ensures { λ r. ⌜ r ≡ summary (now (text .entry)) ⌝ }
+    ensures answer { λ r. ⌜ r ≡ summary (now (text .entry)) ⌝ }
+    ensures exact { λ r. ⌜ Granted-exactly (now (text .entry)) r ⌝ }
 {
     let mut reader = Reader::new(text);
     let routers = read_routers(&mut reader)?;
