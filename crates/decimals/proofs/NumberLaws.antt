@@ -1,19 +1,17 @@
 -- Reading a number digit by digit.
 use mathlib.Core.Path.{_≡_, refl, sym, ap, _∙_}
-use mathlib.Core.Bool.{Bool, true, false, cond, _&&_}
+use mathlib.Core.Bool.{Bool, true, false, _&&_}
 use mathlib.Core.Logic.{⊎-elim}
 use mathlib.Core.List.{List, [], _∷_}
 use Prim.Native.Nat.{ℕ, _+_, _-_, _*_, _^_, _≤_, _<_}
 use borrow.Author.Needs.{needs}
 use native.Mathlib.Omega.{arith}
 use lib.Dec.{leb, eqb}
-use lib.ListN.{length, getD, drop}
+use lib.ListN.{length, getD}
 use Rattle.std.specs.Written.{decimal}
 use Rattle.std.proofs.shelf.Decimals.{digits-decimal, value-decimal, decimal-value, decimal-digit, decimal-some, first-decimal}
-use Rattle.std.proofs.shelf.Lists.{drop-more}
 use Rattle.std.proofs.shelf.Numerals.{Numerals, numerals-by-fold}
-use Rattle.std.proofs.shelf.Tests.{le-leb, lt-leb, leb-true, leb-false, eqb-true, false≢true, both-ways, eq-eqb, ne-eqb, not-true, and-parts, and-cases, and-from, and-left, and-right, cases-bool, cases-eq, cond-true, cond-false}
-use Rattle.std.specs.declared.option.Option.{Option}
+use Rattle.std.proofs.shelf.Tests.{le-leb, lt-leb, leb-true, leb-false, false≢true, both-ways, eq-eqb, ne-eqb, not-true, and-parts, and-cases, and-from, and-left, and-right, cases-bool, cases-eq, cond-true, cond-false}
 use Rattle.std.specs.declared.option.Option.the-variants.{Some, None}
 use Rattle.decimals.specs.Numbers.{digit, all-digits, unpadded, value, numeral, Reads-decimal}
 use Rattle.decimals.specs.Digits.{one-more, digits-behind}

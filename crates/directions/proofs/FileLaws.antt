@@ -1,9 +1,9 @@
 -- The lines of a file, one after another.
 use mathlib.Core.Path.{_≡_, refl, sym, ap, _∙_}
-use mathlib.Core.List.{List, [], _∷_}
+use mathlib.Core.List.{[], _∷_}
 use Prim.Native.Nat.{ℕ, zero, suc, _+_, _≤_, _<_}
 use native.Mathlib.Omega.{arith}
-use lib.ListN.{length, drop, length-drop}
+use lib.ListN.{length, length-drop}
 use Rattle.std.proofs.shelf.Tests.{cond-both}
 use Rattle.std.specs.declared.option.Option.{Option}
 use Rattle.std.specs.declared.option.Option.the-variants.{Some, None}
@@ -12,11 +12,11 @@ use Rattle.std.specs.declared.result.Result.the-variants.{Ok, Err}
 use Rattle.faults.specs.declared.fault.Fault.{Fault}
 use Rattle.decimals.specs.Numbers.{numeral}
 use Rattle.directions.specs.declared.direction.Direction.{Direction}
-use Rattle.linkfile.specs.Lines.{from, to, weight, end, Said, bad, before, told, moved}
+use Rattle.linkfile.specs.Lines.{from, to, weight, end, Said, moved}
 use Rattle.linkfile.specs.Reading.{Standing, left, next-said, onward}
-use Rattle.directions.specs.Directions.{same-key, number-on, next-number, Reading, go-on, rest-read, ending, one-direction, begun, direction-read}
+use Rattle.directions.specs.Directions.{same-key, number-on, next-number, Reading, go-on, rest-read, begun, direction-read}
 use Rattle.directions.specs.Files.{Listing, list-on, listing, list-all}
-use Rattle.linkfile.proofs.LineLaws.{before-le, unended, ended, told-ends}
+use Rattle.linkfile.proofs.LineLaws.{before-le, ended, told-ends}
 
 -- ---- what a reading leaves of the text
 onward-le : (s : Standing) → length (left (onward s)) ≤ length (left s)

@@ -1,8 +1,7 @@
 -- What the lines of a link file mean, in their order.
 use mathlib.Core.Bool.{Bool, cond}
 use mathlib.Core.List.{List}
-use mathlib.Core.Path.{_≡_}
-use Prim.Native.Nat.{ℕ, _+_}
+use Prim.Native.Nat.{ℕ}
 use denote.Ref.{RefT}
 use lib.Chars.{codes}
 use lib.Dec.{eqb}

@@ -2,7 +2,7 @@
 ghost use mathlib.Core.Path.{_≡_};
 ghost use Prim.Native.Nat.{_+_};
 ghost use lib.Dec.{leb};
-ghost use Rattle.memory.specs.Writes.{fits, write-answer, write-leaves};
+ghost use Rattle.memory.specs.Writes.{write-answer, write-leaves};
 use faults::Refusal;
 
 // Whether so many items fit into a memory of this length from the place `at` on.

@@ -1,7 +1,6 @@
 use mathlib.Core.Path.{sym, ap, _∙_}
 use Prim.Native.Nat.{_+_}
-use native.Mathlib.Omega.{arith}
-use lib.ListN.{length, getD, drop}
+use lib.ListN.{getD, drop}
 use Rattle.std.proofs.shelf.Lists.{drop-more, drop-all}
 use Rattle.decimals.specs.Digits.{digits-behind}
 use Rattle.decimals.proofs.NumberLaws.{behind-end, behind-some, behind-none}
