@@ -14,6 +14,13 @@ pub enum Fault {
 }
 
 impl Fault {
+    // A fault of the table, where no file is read.
+    pub fn of_table(refusal: Refusal) -> Fault
+        ensures { λ r. ⌜ r ≡ Fault.Table refusal 0 ⌝ }
+    {
+        Fault::Table { refusal, line: 0 }
+    }
+
     // Why it was refused.
     pub fn refusal(self) -> Refusal
         ensures { λ r. ⌜ r ≡ refusal-of self ⌝ }

@@ -1,0 +1,4 @@
+pub mod Links
+pub mod Tables
+pub mod Meaning
+pub mod TwoWays
