@@ -15,7 +15,7 @@ pub record Costs (C : Type 0) : Type 0 where
 
 -- the laws of a rule; that strictly lower survives joining is none of them
 pub record Laws {C : Type 0} (k : Costs C) : Type 0 where
-  -- the order is total, and costs of which neither is lower are the same
+  -- costs are ordered totally, and those of which neither is lower are the same
   pub irreflexive : (a : C) → k .lower a a ≡ false
   pub transitive : (a b c : C) → k .lower a b ≡ true → k .lower b c ≡ true → k .lower a c ≡ true
   pub total : (a b : C) → k .lower a b ≡ false → k .lower b a ≡ false → a ≡ b
