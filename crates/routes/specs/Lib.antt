@@ -1,0 +1,11 @@
+pub mod Leasts
+pub mod Lists
+pub mod Network
+pub mod Routes
+pub mod Tree
+pub mod Transverse
+pub mod Pages
+pub mod Walk
+pub mod Settling
+pub mod Theorems
+pub mod NetK
