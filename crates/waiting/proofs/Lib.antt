@@ -1,0 +1,5 @@
+pub mod Sifts
+pub mod Stirs
+pub mod CallFacts
+pub mod Depths
+pub mod RunFacts

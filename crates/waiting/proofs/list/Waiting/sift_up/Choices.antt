@@ -1,0 +1,15 @@
+use Prim.Native.Nat.{_<_}
+use Rattle.waiting.specs.Heap.{Light}
+use Rattle.waiting.specs.Waiting.{memory, Stirred}
+use Rattle.waiting.proofs.Depths.{depth}
+use Rattle.waiting.proofs.list.Waiting.sift_up.Given as given
+
+abbrev pub Inv-loop-at : given.InvT-loop-at
+Inv-loop-at g l =
+    (l .at < l .self .len)
+    × Stirred (l .entry .self) (l .self)
+    × (Light (g .E·Ranked .before) (memory (l .entry .self)) (l .entry .self .len) (l .entry .at) → Light (g .E·Ranked .before) (memory (l .self)) (l .self .len) (l .at))
+
+-- the steps that lead to the top: at most the logarithm of the entries
+abbrev pub μ-loop-at : given.MeasureT-loop-at
+μ-loop-at g l = depth (l .at)

@@ -1,0 +1,4 @@
+pub mod Order
+pub mod Heap
+pub mod Waiting
+pub mod Runs
