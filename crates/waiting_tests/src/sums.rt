@@ -9,7 +9,7 @@ use waiting::Waiting;
 
 // A call on the list, with what it answers.
 #[derive(Clone, Copy)]
-pub enum Step {
+pub(crate) enum Step {
     // A push of this cost and router is granted.
     Takes(u32, usize),
     // A push is refused.
@@ -20,7 +20,7 @@ pub enum Step {
     Empty,
 }
 
-pub fn at(cost: u32, router: usize) -> Entry<u32> {
+pub(crate) fn at(cost: u32, router: usize) -> Entry<u32> {
     Entry { cost, router }
 }
 
@@ -32,7 +32,7 @@ fn gives(next: Option<Entry<u32>>, cost: u32, router: usize) -> Result<(), Fail>
 }
 
 // Makes one call.
-pub fn make(list: &mut Waiting<Entry<u32>>, step: Step) -> Result<(), Fail> {
+pub(crate) fn make(list: &mut Waiting<Entry<u32>>, step: Step) -> Result<(), Fail> {
     match step {
         Step::Takes(cost, router) => check_eq(list.push(at(cost, router)), Ok(())),
         Step::Full => check_eq(list.push(at(0, 0)), Err(Refusal::Full)),
@@ -42,7 +42,7 @@ pub fn make(list: &mut Waiting<Entry<u32>>, step: Step) -> Result<(), Fail> {
 }
 
 // Makes the calls on a new list, which then has so many entries.
-pub fn run(memory: &mut [Entry<u32>], steps: &[Step], len: usize) -> Result<(), Fail> {
+pub(crate) fn run(memory: &mut [Entry<u32>], steps: &[Step], len: usize) -> Result<(), Fail> {
     let mut list = Waiting::new(memory);
     for s in steps {
         make(&mut list, *s)?;
