@@ -149,10 +149,10 @@ module _ {Cost : Type 0} (N : Network Cost) (sound : Sound N) (root : ℕ) where
         q .1 ∙ sym (ap Some (⊎-elim (λ p. some-inj a (q .0) (sym e ∙ p))
         (λ p. absurd (both-ways (N .rule .lower c a) h (sound .lawful .transitive c (q .0) a (subst (λ z. N .rule .lower c z ≡ true) (sym (p .2)) (above x (p .0) (p .1))) (p .3 a e)))) (new x (q .0) (q .1))))
 
-    done-kept : (x : ℕ) (a : Cost) → done x ≡ true → f x ≡ Some a → f′ x ≡ Some a
+    pub done-kept : (x : ℕ) (a : Cost) → done x ≡ true → f x ≡ Some a → f′ x ≡ Some a
     done-kept x a d e = kept x a e (s .nearer x u a c d (n .waits) e (n .costs))
 
-    u-kept : f′ u ≡ Some c
+    pub u-kept : f′ u ≡ Some c
     u-kept = kept u c (n .costs) (sound .lawful .irreflexive c)
 
     c-above-zero : N .rule .lower c (N .rule .zero) ≡ false
