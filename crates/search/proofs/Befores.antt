@@ -15,7 +15,7 @@ use Rattle.routes.proofs.Members.{some-inj}
 use Rattle.search.specs.Found.{Nearest-first}
 
 module _ {C : Type 0} (N : Network C) (sound : Sound N) (root : ℕ) (order : List ℕ) (many : ℕ) (line : Nearest-first N root order many) where
-  -- two routers by their places in the order
+  -- two routers by their places in the sequence
   abbrev pub Before : ℕ → ℕ → Type 0
   Before x d = (i j : ℕ) × (i < j) × (j < many) × (getD order i 0 ≡ x) × (getD order j 0 ≡ d)
 

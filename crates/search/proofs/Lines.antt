@@ -17,7 +17,7 @@ use Rattle.routes.proofs.Members.{some-inj}
 use Rattle.routes.proofs.Relaxing.{done-kept, u-kept}
 use Rattle.routes.proofs.Sizes.{size, size-less}
 
--- The first `many` of the order are the done routers, each once, and none is nearer than one before it.
+-- The first `many` of the sequence are the done routers, each once, and none is nearer than one before it.
 pub record In-line {C : Type 0} (N : Network C) (done : ℕ → Bool) (f : ℕ → Option C) (order : List ℕ) (many : ℕ) : Type 0 where
   pub few : many ≤ size (N .count) done
   pub marked : (i : ℕ) → i < many → done (getD order i 0) ≡ true

@@ -246,7 +246,7 @@ module _ {C : Type 0} {rule : Costs C} {links : List (Option C)} {count root : �
           (λ n. run .absent d l n ∙ sym (ap (λ o. when-some o (rule .zero) (λ c. c)) (sym (found d l) ∙ cond-false (holds known d) (Some (getD best d (rule .zero))) None n)))
           (cases-bool (holds known d))
 
-      -- a router of the order has a best cost
+      -- a router of the sequence has a best cost
       costs-of : (i : ℕ) → i < marks .many → (a : C) × (f (getD (marks .order) i 0) ≡ Some a) × (getD (marks .order) i 0 < count)
       costs-of i h =
           let x = getD (marks .order) i 0 in

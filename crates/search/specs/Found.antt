@@ -28,7 +28,7 @@ pub record Nearest-first {C : Type 0} (N : Network C) (root : ℕ) (order : List
   pub once : (i j : ℕ) → i < j → j < many → getD order i 0 ≢ getD order j 0
   pub rising : (i j : ℕ) → i < j → j < many → below (N .rule) (best N root (getD order j 0)) (best N root (getD order i 0)) ≡ false
 
--- the best costs stand in the memory, the mask has the routers with a best cost, and the order goes by best cost
+-- the best costs stand in the memory, the mask has the routers with a best cost, and the sequence goes by best cost
 pub record Searched {C : Type 0} (N : Network C) (root : ℕ) (old new : List C) (r : Found) : Type 0 where
   pub memory : new ≡ best-memory N root old
   pub known : (d : ℕ) → holds (r .known) d ≡ (ltb d (N .count) && isSome (best N root d))

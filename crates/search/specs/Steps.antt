@@ -60,7 +60,7 @@ pub record Step {C : Type 0} (rule : Costs C) (f′ : ℕ → Option C) (n m : �
   pub len : w′ .len ≤ w .len + m
   pub size : length (memory w′) ≡ length (memory w)
 
--- one router more is done, and comes next in the order
+-- one router more is done, and comes next in the sequence
 pub record Marked (router : ℕ) (old new : Marks) : Type 0 where
   pub done : (k : ℕ) → holds (new .done) k ≡ also (holds (old .done)) router k
   pub order : new .order ≡ set (old .order) (old .many) router

@@ -3,6 +3,6 @@
 pub struct Found {
     pub known: u32,
     pub order: [u8; 32],
-    // How many places of the order count.
+    // How many places of `order` count.
     pub many: usize,
 }
