@@ -23,7 +23,7 @@ pub use found::Found;
 use marks::Marks;
 
 // The cost of the link between two routers, if there is one.
-fn link<C: Cost>(links: &[Option<C>], count: usize, from: usize, to: usize) -> Option<C>
+pub fn link<C: Cost>(links: &[Option<C>], count: usize, from: usize, to: usize) -> Option<C>
     requires square { ⌜ Square (C·Cost .costs) (now links) count ⌝ }
     requires inside { ⌜ (from < count) × (to < count) ⌝ }
     ensures { λ r. ⌜ r ≡ matrix (C·Cost .costs) count (now (links .entry)) .link from to ⌝ }
