@@ -1,4 +1,6 @@
 // Areas: links and pages, and the calls on them.
+#![tactic(auto)]
+
 pub mod area;
 pub mod calls;
 pub mod links;

@@ -1,4 +1,6 @@
 // Areas that are opened, changed, settled, asked and loaded: a worked example, refusals and link files.
+#![tactic(auto)]
+
 #[cfg(test)]
 mod changes;
 #[cfg(test)]

@@ -1,4 +1,6 @@
 // Cost rules: how a link's number is read as a cost, and how costs are joined and ordered.
+#![tactic(auto)]
+
 ghost use Rattle.std.specs.Prelude.{◌≡◌, ℕ, List};
 ghost use Rattle.costs.specs.Costs.{Costs, Laws, Joinable};
 

@@ -1,4 +1,6 @@
 // Decimal numbers read from a text, and numbers and sets of routers written into handed memory.
+#![tactic(auto)]
+
 pub mod read;
 pub mod sets;
 pub mod write;

@@ -1,4 +1,6 @@
 // What the lines of a link file mean: the count of routers, the rule and the directions.
+#![tactic(auto)]
+
 pub mod direction;
 pub mod read;
 

@@ -1,4 +1,6 @@
 // A router that waits to be settled, with the best cost found for it so far.
+#![tactic(auto)]
+
 ghost use Rattle.entries.specs.Entry.{entry_before};
 ghost use Rattle.std.proofs.Common.{rules};
 

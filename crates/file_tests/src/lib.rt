@@ -1,4 +1,6 @@
 // Many small link files, each with what is told of it.
+#![tactic(auto)]
+
 #[cfg(test)]
 mod files;
 #[cfg(test)]

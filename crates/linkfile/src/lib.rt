@@ -1,4 +1,6 @@
 // The lines of a link file: a reader that walks over the lent text and copies none of it.
+#![tactic(auto)]
+
 pub mod keys;
 pub mod line;
 pub mod next_line;

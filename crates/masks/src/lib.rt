@@ -1,4 +1,6 @@
 // Sets of routers as 32-bit masks.
+#![tactic(auto)]
+
 ghost use Rattle.std.specs.Prelude.{◌≡◌, ℕ, ◌<◌, ◌≤◌, ◌||◌, ◌==◌};
 ghost use Rattle.masks.specs.Sets.{holds, including, besides};
 

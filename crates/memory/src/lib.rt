@@ -1,4 +1,6 @@
 // Writing into memory that the caller hands in.
+#![tactic(auto)]
+
 ghost use Rattle.std.specs.Prelude.{◌≡◌, ◌+◌, nat_le};
 ghost use Rattle.memory.specs.Writes.{write_answer, write_leaves};
 

@@ -1,4 +1,6 @@
 // Best costs from one router, nearest router first, for every cost rule.
+#![tactic(auto)]
+
 ghost use Rattle.std.specs.Prelude.{◌≡◌, ℕ, ◌+◌, ◌<◌, ◌≤◌, length, drop, Some, slice_index_or};
 ghost use Rattle.routes.specs.Leasts.{joined};
 ghost use Rattle.routes.specs.Settling.{relaxed_by};

@@ -1,4 +1,6 @@
 // Lists of calls on an area, made one after another.
+#![tactic(auto)]
+
 pub mod calls;
 pub mod making;
 

@@ -1,4 +1,6 @@
 // One root settled: best costs, the tree, rest costs and the sets of hops, for every cost rule.
+#![tactic(auto)]
+
 ghost use Rattle.std.specs.Prelude.{◌≡◌, ℕ, ◌*◌, ◌<◌, ◌≤◌, map, length, is_some, Some, None, slice_index_or};
 ghost use Rattle.std.specs.List.{range_with_len};
 ghost use Rattle.masks.specs.Sets.{mask};

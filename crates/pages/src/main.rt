@@ -1,4 +1,6 @@
 // Reads a link file from standard input and prints what it says, or its fault.
+#![tactic(auto)]
+
 use std::io::Read;
 use summary::{LONGEST_INPUT, tell};
 

@@ -1,4 +1,6 @@
 // The pages of an area: what is worked out for each root, and which pages are current.
+#![tactic(auto)]
+
 pub mod page;
 pub mod path;
 pub mod table;

@@ -1,4 +1,6 @@
 // What the program `pages` prints of its input: the reports of all routers, or a fault.
+#![tactic(auto)]
+
 pub mod fault_lines;
 pub mod head;
 pub mod output;

@@ -1,4 +1,6 @@
 // A plain link table over a list of records that the caller hands in.
+#![tactic(auto)]
+
 pub mod record;
 pub mod records;
 

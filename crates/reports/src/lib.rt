@@ -1,4 +1,6 @@
 // The report of one page as text, written into handed memory.
+#![tactic(auto)]
+
 pub mod entries;
 pub mod lines;
 pub mod report;

@@ -1,4 +1,6 @@
 // Routes over links of any cost rule, and the hops that a router may pick. Each function states one theorem.
+#![tactic(auto)]
+
 ghost use Rattle.routes.specs.NetK.{NetK, RulesOrder, EqualRestCost, ClimbingThroughRoot};
 ghost use Rattle.routes.specs.Theorems.{StandingIsSound, StandingIsTwoWay, BestIsLeast, RoutesAreShort, LowestFatherChooses, FatherIsLowest, TreeStands, PathStands, RestIsLeast, TreeHopIsValid, TransverseRoutesAvoid, ValidIsNearer, SecondCandidate, NothingWithoutRoute, SetsAreMasks, OwnFathersMatter, HopsArrive, EveryPickArrives, WalkArrives, RelaxedIsBest, SettlingSteps, PassesSolve, ClimbingSteps, WholeCostNeverBelow};
 

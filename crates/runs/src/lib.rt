@@ -1,4 +1,6 @@
 // What holds over every list of calls on an area.
+#![tactic(auto)]
+
 ghost use Rattle.area.specs.Meaning.{area_of};
 ghost use Rattle.runs.specs.Laws.{Law, NeverShort};
 

@@ -1,4 +1,6 @@
 // The page of one root, worked out from the best costs that a search left: fathers, tree hops, and the passes of the rest costs.
+#![tactic(auto)]
+
 ghost use Rattle.std.specs.Prelude.{◌≡◌, ℕ, ◌<◌, ◌≤◌, true, map, length, get_or, is_some, Some, None, Option, slice_index_or};
 ghost use Rattle.std.specs.List.{range_with_len};
 ghost use Rattle.routes.specs.Leasts.{joined, same};

@@ -1,5 +1,7 @@
 // What the program `pages` tells of a link file: its count of routers, its rule and how many
 // directions it has, or the fault that ends it.
+#![tactic(auto)]
+
 pub mod answer;
 pub mod names;
 pub mod outcome;

@@ -1,4 +1,6 @@
 // Small runs of puts and cuts on each table, and what the rules read.
+#![tactic(auto)]
+
 #[cfg(test)]
 mod rules;
 #[cfg(test)]

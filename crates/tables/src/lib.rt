@@ -1,4 +1,6 @@
 // Link tables: what a table of links means, whatever it is made of, and the two-way check.
+#![tactic(auto)]
+
 pub mod table;
 pub mod two_way;
 

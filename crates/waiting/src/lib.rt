@@ -1,4 +1,6 @@
 // A waiting list: a binary heap in handed memory, which gives its lowest entry first.
+#![tactic(auto)]
+
 ghost use Rattle.std.specs.Prelude.{◌≡◌, Bool};
 ghost use Rattle.waiting.specs.Order.{Ordered};
 ghost use Rattle.waiting.specs.Runs.{LowestFirst};

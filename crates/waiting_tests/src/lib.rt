@@ -1,4 +1,6 @@
 // Sequences of pushes and pops, each with what it answers.
+#![tactic(auto)]
+
 #[cfg(test)]
 mod paths;
 #[cfg(test)]

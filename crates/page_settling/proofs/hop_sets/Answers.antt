@@ -28,7 +28,7 @@ nearer-near-requires g c =
     let rule = g.C.Cost.costs in
     let N = matrix rule c.args.count c.args.links.now in
     let sound = matrix_sound rule c.args.links.now c.args.count g.met.C.Cost.lawful c.requires.square in
-    let long : length c.row-of-reached.new.row ≡ c.args.count = ap length c.row-of-reached.ensures.row ∙ length-map-range_with_len _ 0 c.args.count in
+    let long : length c.row_of-reached.new.row ≡ c.args.count = ap length c.row_of-reached.ensures.row ∙ length-map-range_with_len _ 0 c.args.count in
     (c.requires.square.few, omega arith, places N sound c.args.root c.args.best.now c.args.found c.requires.left)
 
 pub loop-v-preserved : goal.loop-v-preserved
@@ -36,9 +36,9 @@ loop-v-preserved g c =
     let rule = g.C.Cost.costs in
     let N = matrix rule c.args.count c.args.links.now in
     let sound = matrix_sound rule c.args.links.now c.args.count g.met.C.Cost.lawful c.requires.square in
-    let made = c.row-of-reached in
+    let made = c.row_of-reached in
     entered_more N sound c.args.root c.requires.left c.requires.inside.1 c.loop-v.invariant c.loop-v-test.true made.new.row made.result c.nearer-near.result
-    made.ensures.costs c.nearer-near.ensures c.add-hop.new.sets c.add-hop-in-loop-v.new.sets made.ensures.row c.add-hop.ensures c.add-hop-in-loop-v.ensures
+    made.ensures.costs c.nearer-near.ensures c.add_hop.new.sets c.add_hop-in-loop-v.new.sets made.ensures.row c.add_hop.ensures c.add_hop-in-loop-v.ensures
 
 pub returns : goal.returns
 returns g c =

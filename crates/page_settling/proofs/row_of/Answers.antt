@@ -12,12 +12,12 @@ returns g c =
     let rule = g.C.Cost.costs in
     let n = c.args.count in
     let N = matrix rule n c.args.links.now in
-    let row = c.rests-of-reached.new.row in
-    let next = c.clear-others.new.row in
-    let reached = c.rests-of-reached.result in
-    let long : length row ≡ n = c.rests-of-reached.ensures.size ∙ c.requires.inside.2 in
-    let is : next ≡ map (cost_held rule row reached) (range_with_len 0 n) = c.clear-others.ensures ∙ ap (λ k. map (cost_held rule row reached) (range_with_len 0 k)) long in
+    let row = c.rests_of-reached.new.row in
+    let next = c.clear_others.new.row in
+    let reached = c.rests_of-reached.result in
+    let long : length row ≡ n = c.rests_of-reached.ensures.size ∙ c.requires.inside.2 in
+    let is : next ≡ map (cost_held rule row reached) (range_with_len 0 n) = c.clear_others.ensures ∙ ap (λ k. map (cost_held rule row reached) (range_with_len 0 k)) long in
     record {
-      row = row_written rule row next reached n is (rest N (lowest_father N) c.args.root c.args.router) c.rests-of-reached.ensures.costs;
-      costs = costs_written rule row next reached n is (rest N (lowest_father N) c.args.root c.args.router) c.rests-of-reached.ensures.costs;
+      row = row_written rule row next reached n is (rest N (lowest_father N) c.args.root c.args.router) c.rests_of-reached.ensures.costs;
+      costs = costs_written rule row next reached n is (rest N (lowest_father N) c.args.root c.args.router) c.rests_of-reached.ensures.costs;
     }

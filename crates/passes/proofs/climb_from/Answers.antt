@@ -7,8 +7,8 @@ use Rattle.passes.proofs.Climbs.{up_to_root, up_to_father}
 use Rattle.passes.proofs.Offers.{closed}
 use Rattle.passes.proofs.climb_from.Goals as goal
 
-pub take-offer-requires : goal.take-offer-requires
-take-offer-requires g c =
+pub take_offer-requires : goal.take_offer-requires
+take_offer-requires g c =
     let inside = (c.requires.father c.in-Some.p c.in-Some.is).0 in
     (omega (arith, inside, c.requires.inside.1), omega (arith, inside, c.requires.square.few))
 
@@ -40,9 +40,9 @@ returns-else-p-root g c =
     let f = costs_in rule c.args.row.now c.args.reached in
     let N = matrix rule c.args.count c.args.links.now in
     record {
-      costs = λ d. c.take-offer.ensures.costs d
-          ∙ ap (λ o. with_offer rule f c.in-Some.p o d) (c.onward-way.ensures ∙ ap₂ (joined rule) c.cost-of.ensures c.link.ensures)
+      costs = λ d. c.take_offer.ensures.costs d
+          ∙ ap (λ o. with_offer rule f c.in-Some.p o d) (c.onward-way.ensures ∙ ap₂ (joined rule) c.cost_of.ensures c.link.ensures)
           ∙ up_to_father N c.args.root c.args.row.now c.args.reached c.args.from c.in-Some.p d c.if-p-root.false
           ∙ sym (ap (λ o. to_father N c.args.root o f c.args.from d) c.in-Some.is);
-      size = c.take-offer.ensures.size;
+      size = c.take_offer.ensures.size;
     }

@@ -15,8 +15,8 @@ loop-i-init g c =
     let sound = matrix_sound rule c.args.links.now c.args.count g.met.C.Cost.lawful c.requires.square in
     (refl, descended_first N sound c.args.root c.args.neighbour c.args.found.order (costs_in rule c.args.row.now c.args.reached) c.requires.climbs, λ d _. refl)
 
-pub descend-to-reached-requires : goal.descend-to-reached-requires
-descend-to-reached-requires g c =
+pub descend_to-reached-requires : goal.descend_to-reached-requires
+descend_to-reached-requires g c =
     let rule = g.C.Cost.costs in
     let laws = g.met.C.Cost.lawful in
     let N = matrix rule c.args.count c.args.links.now in
@@ -42,12 +42,12 @@ loop-i-preserved g c =
     let sound = matrix_sound rule c.args.links.now c.args.count g.met.C.Cost.lawful c.requires.square in
     let d = get_or c.args.found.order c.loop-i.i 0 in
     let f = costs_in rule c.loop-i.row c.loop-i.reached in (
-      c.descend-to-reached.ensures.size ∙ c.loop-i.invariant.0,
+      c.descend_to-reached.ensures.size ∙ c.loop-i.invariant.0,
       descended_more N sound c.args.root c.args.neighbour c.requires.tree.1 c.loop-i.invariant.1 c.loop-i-test.true
-          (λ x. c.descend-to-reached.ensures.costs x ∙ ap (λ o. with_offer rule f d (by_father N o f d) x) (ap (λ t. get_or t d None) c.requires.tree.0 ∙ at_table N sound c.args.root d)),
+          (λ x. c.descend_to-reached.ensures.costs x ∙ ap (λ o. with_offer rule f d (by_father N o f d) x) (ap (λ t. get_or t d None) c.requires.tree.0 ∙ at_table N sound c.args.root d)),
       λ x past.
           let ne : x ≢ d = omega (arith, (c.requires.tree.1.reached c.loop-i.i c.loop-i-test.true).0) in
-          c.descend-to-reached.ensures.costs x ∙ cond-false (eqb x d) _ (f x) (ne_eqb x d ne) ∙ c.loop-i.invariant.2 x past,
+          c.descend_to-reached.ensures.costs x ∙ cond-false (eqb x d) _ (f x) (ne_eqb x d ne) ∙ c.loop-i.invariant.2 x past,
     )
 
 pub returns : goal.returns

@@ -5,14 +5,14 @@ use Rattle.passes.specs.Trees.{passes}
 use Rattle.passes.proofs.Trees.{lowest_at, lowest_none}
 use Rattle.passes.proofs.father_of.Goals as goal
 
-pub returns-then-comes-by : goal.returns-then-comes-by
-returns-then-comes-by g c =
+pub returns-then-comes_by : goal.returns-then-comes_by
+returns-then-comes_by g c =
     let rule = g.C.Cost.costs in
     sym (lowest_at c.args.count (passes (matrix rule c.args.count c.args.links.now) (costs_in rule c.args.best.now c.args.known) c.args.router)
-    c.loop-from.from (omega arith) (sym c.if-comes-by.ensures) c.loop-from.invariant)
+    c.loop-from.from (omega arith) (sym c.if-comes_by.ensures) c.loop-from.invariant)
 
 pub loop-from-preserved : goal.loop-from-preserved
-loop-from-preserved g c = below_more _ _ c.loop-from.invariant (sym c.if-comes-by.ensures)
+loop-from-preserved g c = below_more _ _ c.loop-from.invariant (sym c.if-comes_by.ensures)
 
 pub returns : goal.returns
 returns g c =

@@ -11,8 +11,8 @@ use Rattle.passes.proofs.fathers.Goals as goal
 pub loop-d-init : goal.loop-d-init
 loop-d-init g c = (refl, λ k l. absurd (omega arith), λ k l. all_none 32 k)
 
-pub father-of-requires : goal.father-of-requires
-father-of-requires g c =
+pub father_of-requires : goal.father_of-requires
+father_of-requires g c =
     let rule = g.C.Cost.costs in
     let N = matrix rule c.args.count c.args.links.now in
     let sound = matrix_sound rule c.args.links.now c.args.count g.met.C.Cost.lawful c.requires.square in
@@ -29,12 +29,12 @@ loop-d-preserved g c =
     let sound = matrix_sound rule c.args.links.now c.args.count g.met.C.Cost.lawful c.requires.square in
     let at = c.loop-d.d in
     let old = c.loop-d.fathers in
-    let new = c.father-of.result in
+    let new = c.father_of.result in
     let inside : at < length old = omega (arith, c.loop-d.invariant.0, c.requires.square.few) in (
       length-set old at new ∙ c.loop-d.invariant.0,
       below_more _ _
           (λ k h. let ne : k ≢ at = omega arith in get_or-set_other old at k new None ne ∙ c.loop-d.invariant.1 k h)
-          (get_or-set_same old at new None inside ∙ c.father-of.ensures ∙ father_lowest N sound c.args.root c.args.best.now c.args.found c.requires.left at (omega arith)),
+          (get_or-set_same old at new None inside ∙ c.father_of.ensures ∙ father_lowest N sound c.args.root c.args.best.now c.args.found c.requires.left at (omega arith)),
       λ k h. let ne : k ≢ at = omega arith in get_or-set_other old at k new None ne ∙ c.loop-d.invariant.2 k (omega arith),
     )
 

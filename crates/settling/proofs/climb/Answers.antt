@@ -15,8 +15,8 @@ loop-i-init g c =
     let sound = matrix_sound rule c.args.links.now c.args.count g.met.C.Cost.lawful c.requires.square in
     (refl, climbing_first N sound c.args.root c.args.neighbour c.args.found.order c.args.found.many (costs_in rule c.args.row.now c.args.reached) c.requires.starts)
 
-pub climb-from-reached-requires : goal.climb-from-reached-requires
-climb-from-reached-requires g c =
+pub climb_from-reached-requires : goal.climb_from-reached-requires
+climb_from-reached-requires g c =
     let rule = g.C.Cost.costs in
     let laws = g.met.C.Cost.lawful in
     let N = matrix rule c.args.count c.args.links.now in
@@ -41,9 +41,9 @@ loop-i-preserved g c =
     let sound = matrix_sound rule c.args.links.now c.args.count g.met.C.Cost.lawful c.requires.square in
     let d = get_or c.args.found.order (c.args.found.many - 1 - c.loop-i.i) 0 in
     let f = costs_in rule c.loop-i.row c.loop-i.reached in (
-      c.climb-from-reached.ensures.size ∙ c.loop-i.invariant.0,
+      c.climb_from-reached.ensures.size ∙ c.loop-i.invariant.0,
       climbing_more N sound c.args.root c.args.neighbour c.requires.tree.1 c.loop-i.invariant.1 c.loop-i-test.true
-          (λ x. c.climb-from-reached.ensures.costs x ∙ ap (λ o. to_father N c.args.root o f d x) (ap (λ t. get_or t d None) c.requires.tree.0 ∙ at_table N sound c.args.root d)),
+          (λ x. c.climb_from-reached.ensures.costs x ∙ ap (λ o. to_father N c.args.root o f d x) (ap (λ t. get_or t d None) c.requires.tree.0 ∙ at_table N sound c.args.root d)),
     )
 
 pub returns : goal.returns

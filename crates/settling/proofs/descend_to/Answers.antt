@@ -23,7 +23,7 @@ returns-in-Some g c =
     let f = costs_in rule c.args.row.now c.args.reached in
     let N = matrix rule c.args.count c.args.links.now in
     record {
-      costs = λ d. c.take-offer.ensures.costs d ∙ ap (λ o. with_offer rule f c.args.to o d)
-          (c.onward-way.ensures ∙ ap₂ (joined rule) c.cost-of.ensures c.link.ensures ∙ sym (ap (λ o. by_father N o f c.args.to) c.in-Some.is));
-      size = c.take-offer.ensures.size;
+      costs = λ d. c.take_offer.ensures.costs d ∙ ap (λ o. with_offer rule f c.args.to o d)
+          (c.onward-way.ensures ∙ ap₂ (joined rule) c.cost_of.ensures c.link.ensures ∙ sym (ap (λ o. by_father N o f c.args.to) c.in-Some.is));
+      size = c.take_offer.ensures.size;
     }

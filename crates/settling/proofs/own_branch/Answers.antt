@@ -15,8 +15,8 @@ loop-i-init g c =
     let sound = matrix_sound rule c.args.links.now c.args.count g.met.C.Cost.lawful c.requires.square in
     (refl, fallen_first N sound c.args.root c.args.neighbour c.requires.linked c.args.found.order (costs_in rule c.args.row.now 0) (nothing_in rule c.args.row.now))
 
-pub own-cost-cost-requires : goal.own-cost-cost-requires
-own-cost-cost-requires g c =
+pub own_cost-cost-requires : goal.own_cost-cost-requires
+own_cost-cost-requires g c =
     let rule = g.C.Cost.costs in
     let laws = g.met.C.Cost.lawful in
     let N = matrix rule c.args.count c.args.links.now in
@@ -35,8 +35,8 @@ own-cost-cost-requires g c =
           );
     }
 
-pub take-offer-reached-requires : goal.take-offer-reached-requires
-take-offer-reached-requires g c =
+pub take_offer-reached-requires : goal.take_offer-reached-requires
+take_offer-reached-requires g c =
     let inside = (c.requires.tree.1.reached c.loop-i.i c.loop-i-test.true).0 in
     (omega (arith, inside, c.requires.places, c.loop-i.invariant.0), omega (arith, inside, c.requires.square.few))
 
@@ -47,10 +47,10 @@ loop-i-preserved g c =
     let sound = matrix_sound rule c.args.links.now c.args.count g.met.C.Cost.lawful c.requires.square in
     let d = get_or c.args.found.order c.loop-i.i 0 in
     let f = costs_in rule c.loop-i.row c.loop-i.reached in (
-      c.take-offer-reached.ensures.size ∙ c.loop-i.invariant.0,
+      c.take_offer-reached.ensures.size ∙ c.loop-i.invariant.0,
       fallen_more N sound c.args.root c.args.neighbour c.requires.linked c.requires.tree.1 c.loop-i.invariant.1 c.loop-i-test.true
-          (λ x. c.take-offer-reached.ensures.costs x ∙ ap (λ o. with_offer rule f d o x)
-          (c.own-cost-cost.ensures ∙ ap (λ o. own_cost N c.args.neighbour o f d) (ap (λ t. get_or t d None) c.requires.tree.0 ∙ at_table N sound c.args.root d))),
+          (λ x. c.take_offer-reached.ensures.costs x ∙ ap (λ o. with_offer rule f d o x)
+          (c.own_cost-cost.ensures ∙ ap (λ o. own_cost N c.args.neighbour o f d) (ap (λ t. get_or t d None) c.requires.tree.0 ∙ at_table N sound c.args.root d))),
     )
 
 pub returns : goal.returns

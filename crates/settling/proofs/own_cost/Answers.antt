@@ -22,6 +22,6 @@ returns-in-Some g c =
     let rule = g.C.Cost.costs in
     let f = costs_in rule c.args.row.now c.args.reached in
     let N = matrix rule c.args.count c.args.links.now in
-    c.onward.ensures ∙ ap₂ (joined rule) c.cost-of.ensures c.link.ensures
+    c.onward.ensures ∙ ap₂ (joined rule) c.cost_of.ensures c.link.ensures
     ∙ sym (ap (λ o. own_cost N c.args.neighbour o f c.args.at) c.in-Some.is
     ∙ cond-false (eqb c.args.neighbour c.args.at) (Some rule.zero) (joined rule (f c.in-Some.p) (N.link c.in-Some.p c.args.at)) (ne_eqb c.args.neighbour c.args.at c.if-neighbour-at.false))

@@ -6,8 +6,8 @@ use Rattle.settling.specs.Trees.{Hops, FathersFirst}
 use Rattle.settling.proofs.Orders.{hops_table, fathers_first}
 use Rattle.settling.proofs.tree_of.Goals as goal
 
-pub tree-hops-hop-requires : goal.tree-hops-hop-requires
-tree-hops-hop-requires g c =
+pub tree_hops-hop-requires : goal.tree_hops-hop-requires
+tree_hops-hop-requires g c =
     let rule = g.C.Cost.costs in
     let N = matrix rule c.args.count c.args.links.now in
     let sound = matrix_sound rule c.args.links.now c.args.count g.met.C.Cost.lawful c.requires.square in
@@ -21,6 +21,6 @@ returns g c =
     let sound = matrix_sound rule c.args.links.now c.args.count g.met.C.Cost.lawful c.requires.square in
     record {
       father = c.fathers-father.ensures;
-      hop = c.tree-hops-hop.ensures (hop N (lowest_father N) c.args.root)
+      hop = c.tree_hops-hop.ensures (hop N (lowest_father N) c.args.root)
           (subst (λ t. Hops t c.args.root (hop N (lowest_father N) c.args.root)) (sym c.fathers-father.ensures) (hops_table N sound c.args.root));
     }

@@ -17,12 +17,12 @@ pub loop-place-preserved : goal.loop-place-preserved
 loop-place-preserved g c =
     let at = c.loop-place.place in
     let old = c.loop-place.numbers in
-    let new = c.shown-number.result in
+    let new = c.shown_number.result in
     let inside : at < length old = omega (arith, square_few c.count-count.result c.count-count.ensures.bound, c.loop-place.invariant.0) in (
       length-set old at new ∙ c.loop-place.invariant.0,
       below_more _ _
           (λ k h. let ne : k ≢ at = omega arith in get_or-set_other old at k new 0 ne ∙ c.loop-place.invariant.1 k h)
-          (get_or-set_same old at new 0 inside ∙ c.shown-number.ensures),
+          (get_or-set_same old at new 0 inside ∙ c.shown_number.ensures),
       λ k h. let ne : k ≢ at = omega arith in get_or-set_other old at k new 0 ne ∙ c.loop-place.invariant.2 k (omega arith),
     )
 

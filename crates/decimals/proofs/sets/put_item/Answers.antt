@@ -12,6 +12,6 @@ returns c =
     let is : item c.args.first c.args.n ≡ 44 ∷ n = ap (λ f. item f c.args.n) c.if-first.false in
     let long = ap length is in
     record {
-      place = omega (arith, c.put-number-2.ensures.place, long);
-      bytes = c.put-number-2.ensures.bytes ∙ ap (λ o. laid o (at + 1) n) (set_laid out at 44 (omega (arith, c.requires, long))) ∙ laid_laid out at (44 ∷ []) n (omega (arith, c.requires, long)) ∙ ap (laid out at) (sym is);
+      place = omega (arith, c.put_number-2.ensures.place, long);
+      bytes = c.put_number-2.ensures.bytes ∙ ap (λ o. laid o (at + 1) n) (set_laid out at 44 (omega (arith, c.requires, long))) ∙ laid_laid out at (44 ∷ []) n (omega (arith, c.requires, long)) ∙ ap (laid out at) (sym is);
     }

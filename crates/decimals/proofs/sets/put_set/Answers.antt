@@ -11,8 +11,8 @@ pub loop-v-init : goal.loop-v-init
 unfolding members listed
 loop-v-init c = holds_none c.args.out.now c.args.at
 
-pub put-item-place-requires : goal.put-item-place-requires
-put-item-place-requires c =
+pub put_item-place-requires : goal.put_item-place-requires
+put_item-place-requires c =
     let mask = c.args.mask in
     let v = c.loop-v.v in
     let old = listed (members mask v) in
@@ -33,7 +33,7 @@ loop-v-preserved c =
       | then-has w ↦
           let first = eqb c.loop-v.place at in
           let more = listed_in mask v first (omega arith) (sym w.if-has.ensures) (at_start c.loop-v.place at (length old) inv.ends) in
-          let put = w.put-item-place.ensures in
+          let put = w.put_item-place.ensures in
           let room = listed_within mask v (omega arith) in
           subst (Holds before c.if-has.out at c.if-has.place) (sym more)
           (holds_more before c.loop-v.out c.if-has.out at c.loop-v.place c.if-has.place old (item first v) inv (omega (arith, inv.ends, room, c.requires)) (w.place-is ∙ put.place) (w.out-is ∙ put.bytes))

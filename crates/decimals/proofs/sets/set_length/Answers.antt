@@ -20,6 +20,6 @@ loop-v-preserved c =
       | then-has w ↦
           let first = eqb c.loop-v.len 0 in
           let more = ap length (listed_in mask v first (omega arith) (sym w.if-has.ensures) (ap (λ n. eqb n 0) inv.0)) in
-          (omega (arith, w.len-is, w.item-length-len.ensures.value, inv.0, more, length-append old (item first v)), omega (arith, w.len-is, w.item-length-len.ensures.bound, inv.1))
+          (omega (arith, w.len-is, w.item_length-len.ensures.value, inv.0, more, length-append old (item first v)), omega (arith, w.len-is, w.item_length-len.ensures.bound, inv.1))
       | else-has w ↦ (w.len-is ∙ inv.0 ∙ sym (ap (λ l. length (listed l)) (members_out mask v (sym w.if-has.ensures))), omega (arith, w.len-is, inv.1))
     ]

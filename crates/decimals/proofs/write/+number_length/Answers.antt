@@ -6,8 +6,8 @@ use Rattle.decimals.proofs.write.+number_length.Goals as goal
 pub returns-then-n-lt10 : goal.returns-then-n-lt10
 returns-then-n-lt10 t c = sym (one_digit c.args.n c.if-n-lt10.true)
 
-pub overflow-add-result : goal.overflow-add-result
-overflow-add-result t c = omega (arith, c.number-length.ensures, length-decimal-le 10 (c.args.n / 10) (omega arith) (omega arith) (omega arith))
+pub overflow_add-result : goal.overflow_add-result
+overflow_add-result t c = omega (arith, c.number_length.ensures, length-decimal-le 10 (c.args.n / 10) (omega arith) (omega arith) (omega arith))
 
 pub returns : goal.returns
-returns t c = omega (arith, c.number-length.ensures, digit_more c.args.n c.if-n-lt10.false (omega arith))
+returns t c = omega (arith, c.number_length.ensures, digit_more c.args.n c.if-n-lt10.false (omega arith))

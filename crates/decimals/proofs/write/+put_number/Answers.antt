@@ -18,14 +18,14 @@ returns-then-n-lt10 t c =
       bytes = set_laid out at (48 + c.args.n) (omega (arith, one, c.requires)) ∙ ap (laid out at) (sym (decimal_digit c.args.n c.if-n-lt10.true));
     }
 
-pub put-number-last-requires : goal.put-number-last-requires
-put-number-last-requires t c = (omega arith, omega (arith, digit_more c.args.n c.if-n-lt10.false (omega arith), c.requires))
+pub put_number-last-requires : goal.put_number-last-requires
+put_number-last-requires t c = (omega arith, omega (arith, digit_more c.args.n c.if-n-lt10.false (omega arith), c.requires))
 
 pub bounds-out-last : goal.bounds-out-last
-bounds-out-last t c = omega (arith, c.put-number-last.ensures.place, digit_more c.args.n c.if-n-lt10.false (omega arith), c.put-number-last.auto.out, c.requires)
+bounds-out-last t c = omega (arith, c.put_number-last.ensures.place, digit_more c.args.n c.if-n-lt10.false (omega arith), c.put_number-last.auto.out, c.requires)
 
-pub overflow-add-result-2 : goal.overflow-add-result-2
-overflow-add-result-2 t c = omega (arith, c.put-number-last.ensures.place, digit_more c.args.n c.if-n-lt10.false (omega arith), c.requires)
+pub overflow_add-result-2 : goal.overflow_add-result-2
+overflow_add-result-2 t c = omega (arith, c.put_number-last.ensures.place, digit_more c.args.n c.if-n-lt10.false (omega arith), c.requires)
 
 pub returns : goal.returns
 returns t c =
@@ -33,7 +33,7 @@ returns t c =
     let out = c.args.out.now in
     let at = c.args.at in
     let more = digit_more n c.if-n-lt10.false (omega arith) in
-    let front = c.put-number-last.ensures in
+    let front = c.put_number-last.ensures in
     record {
       place = omega (arith, front.place, more);
       bytes = (λ i. set (front.bytes i) (front.place i) (48 + n % 10)) ∙ laid_more out at (decimal (n / 10)) (48 + n % 10) (omega (arith, more, c.requires)) ∙ ap (laid out at) (sym (decimal_step n c.if-n-lt10.false (omega arith)));

@@ -9,9 +9,9 @@ loop-i-init g c = (([], refl, refl), λ k h. refl)
 
 pub loop-i-preserved : goal.loop-i-preserved
 loop-i-preserved g c = (
-  turn_more g.C.Cost.costs (area_of g.T.LinkTable) c.args.area.now c.loop-i.area c.make-call.new.area _ _ _ c.args.calls.now c.loop-i.answers c.loop-i.i _ c.make-call.result
-      (omega arith) (omega arith) c.loop-i.invariant.0 c.make-call.ensures,
-  λ k h. drop-set-lt k c.loop-i.answers c.loop-i.i c.make-call.result (omega arith) ∙ c.loop-i.invariant.1 k (omega arith),
+  turn_more g.C.Cost.costs (area_of g.T.LinkTable) c.args.area.now c.loop-i.area c.make_call.new.area _ _ _ c.args.calls.now c.loop-i.answers c.loop-i.i _ c.make_call.result
+      (omega arith) (omega arith) c.loop-i.invariant.0 c.make_call.ensures,
+  λ k h. drop-set-lt k c.loop-i.answers c.loop-i.i c.make_call.result (omega arith) ∙ c.loop-i.invariant.1 k (omega arith),
 )
 
 pub returns : goal.returns

@@ -6,17 +6,17 @@ use Rattle.passes.proofs.Offers.{not_held}
 use Rattle.passes.proofs.Orders.{at_hops}
 use Rattle.passes.proofs.starts.rest_row.Goals as goal
 
-pub all-starts-begun-requires : goal.all-starts-begun-requires
-all-starts-begun-requires g c =
+pub all_starts-begun-requires : goal.all_starts-begun-requires
+all_starts-begun-requires g c =
     let rule = g.C.Cost.costs in
     let N = matrix rule c.args.count c.args.links.now in
     let sound = matrix_sound rule c.args.links.now c.args.count g.met.C.Cost.lawful c.requires.square in
     record {
       square = c.requires.square;
-      places = omega (arith, c.requires.places, c.own-branch-below.ensures.size);
+      places = omega (arith, c.requires.places, c.own_branch-below.ensures.size);
       hops = λ d. ap (λ t. get_or t d None) c.requires.hops ∙ at_hops N sound c.args.root d;
       linked = c.requires.linked;
-      falls = c.own-branch-below.ensures.costs;
+      falls = c.own_branch-below.ensures.costs;
     }
 
 pub returns : goal.returns
@@ -28,5 +28,5 @@ returns g c =
       costs = c.descend.ensures.costs;
       past = λ d l. not_held rule c.descend.new.row c.descend.result d
           (c.descend.ensures.past d l ∙ c.climb-climbed.ensures.costs d ∙ not_climbed N c.args.root c.args.neighbour sound d l);
-      size = c.descend.ensures.size ∙ c.climb-climbed.ensures.size ∙ c.all-starts-begun.ensures.size ∙ c.own-branch-below.ensures.size;
+      size = c.descend.ensures.size ∙ c.climb-climbed.ensures.size ∙ c.all_starts-begun.ensures.size ∙ c.own_branch-below.ensures.size;
     }

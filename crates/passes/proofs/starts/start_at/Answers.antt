@@ -7,23 +7,23 @@ use Rattle.passes.specs.Rows.{other_hop}
 use Rattle.passes.proofs.Offers.{not_offered}
 use Rattle.passes.proofs.starts.start_at.Goals as goal
 
-pub returns-then-in-other-branch : goal.returns-then-in-other-branch
-returns-then-in-other-branch g c =
+pub returns-then-in_other_branch : goal.returns-then-in_other_branch
+returns-then-in_other_branch g c =
     let rule = g.C.Cost.costs in
     let to = c.args.to in
     let f = costs_in rule c.args.row.now c.args.reached in
     let N = matrix rule c.args.count c.args.links.now in
     let other = other_hop c.args.neighbour (get_or c.args.hops.now to None) in
-    let open_way = sym c.if-in-other-branch.ensures in
+    let open_way = sym c.if-in_other_branch.ensures in
     record {
-      costs = λ d. c.take-offer.ensures.costs d ∙ ap (λ o. with_offer rule f to o d)
+      costs = λ d. c.take_offer.ensures.costs d ∙ ap (λ o. with_offer rule f to o d)
           (c.onward-way.ensures ∙ ap (joined rule c.args.cost) c.link.ensures ∙ sym (cond-true other (joined rule c.args.cost (N.link c.args.from to)) None open_way));
-      kept = λ k e. c.take-offer.ensures.others k (λ q. both_ways other (ap (λ z. other_hop c.args.neighbour (get_or c.args.hops.now z None)) (sym q) ∙ e) open_way);
-      size = c.take-offer.ensures.size;
+      kept = λ k e. c.take_offer.ensures.others k (λ q. both_ways other (ap (λ z. other_hop c.args.neighbour (get_or c.args.hops.now z None)) (sym q) ∙ e) open_way);
+      size = c.take_offer.ensures.size;
     }
 
-pub returns-else-in-other-branch : goal.returns-else-in-other-branch
-returns-else-in-other-branch g c =
+pub returns-else-in_other_branch : goal.returns-else-in_other_branch
+returns-else-in_other_branch g c =
     let rule = g.C.Cost.costs in
     let to = c.args.to in
     let f = costs_in rule c.args.row.now c.args.reached in
@@ -31,7 +31,7 @@ returns-else-in-other-branch g c =
     let other = other_hop c.args.neighbour (get_or c.args.hops.now to None) in
     record {
       costs = λ d. not_offered rule c.args.row.now c.args.reached to d
-          ∙ ap (λ o. with_offer rule f to o d) (sym (cond-false other (joined rule c.args.cost (N.link c.args.from to)) None (sym c.if-in-other-branch.ensures)));
+          ∙ ap (λ o. with_offer rule f to o d) (sym (cond-false other (joined rule c.args.cost (N.link c.args.from to)) None (sym c.if-in_other_branch.ensures)));
       kept = λ k _. refl;
       size = refl;
     }

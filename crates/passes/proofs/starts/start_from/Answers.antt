@@ -14,8 +14,8 @@ loop-to-init g c =
       λ k _. refl,
     )
 
-pub start-at-reached-requires : goal.start-at-reached-requires
-start-at-reached-requires g c =
+pub start_at-reached-requires : goal.start_at-reached-requires
+start_at-reached-requires g c =
     record {
       square = c.requires.square;
       inside = (c.requires.inside.0, c.loop-to-test.true, omega (arith, c.requires.inside.1, c.loop-to.auto.row));
@@ -27,8 +27,8 @@ loop-to-preserved g c =
     let rule = g.C.Cost.costs in
     let N = matrix rule c.args.count c.args.links.now in (
       crossed_more rule (costs_in rule c.args.row.now c.args.reached) (λ y. crossing N c.args.neighbour (get_or c.args.hops.now y None) c.args.from c.args.cost y)
-          c.loop-to.invariant.0 c.start-at-reached.ensures.costs,
-      λ k e. c.start-at-reached.ensures.kept k e ∙ c.loop-to.invariant.1 k e,
+          c.loop-to.invariant.0 c.start_at-reached.ensures.costs,
+      λ k e. c.start_at-reached.ensures.kept k e ∙ c.loop-to.invariant.1 k e,
     )
 
 pub returns : goal.returns

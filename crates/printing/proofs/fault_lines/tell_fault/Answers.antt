@@ -14,4 +14,4 @@ pub returns : goal.returns
 returns c =
     let number = c.number-number.ensures ∙ ap number_of c.refusal.ensures in
     let there = c.line-line.ensures in
-    ap vec_items c.into-bytes.ensures.value ∙ c.in-ok-text.ensures.ok ∙ (λ i. lines (number i) (there i)) ∙ lines_apart _ _
+    ap vec_items c.into_bytes.ensures.value ∙ c.in_ok-text.ensures.ok ∙ (λ i. lines (number i) (there i)) ∙ lines_apart _ _

@@ -5,14 +5,14 @@ use Rattle.tables.specs.Tables.{Table}
 use Rattle.printing.specs.Output.{file_output}
 use Rattle.printing.proofs.output.print_file.Goals as goal
 
-pub print-loaded-requires : goal.print-loaded-requires
-print-loaded-requires g c =
+pub print_loaded-requires : goal.print_loaded-requires
+print_loaded-requires g c =
     let made = c.make-table.ensures.table in
     made ∙ ap (list_empty 992) (sym (ap (λ (t : Table). t.count) made))
 
 pub returns : goal.returns
 returns g c =
     let count = ap (λ (t : Table). t.count) c.make-table.ensures.table in
-    IfOk-weaker c.print-loaded.result _ _
+    IfOk-weaker c.print_loaded.result _ _
     (λ bytes e. e ∙ ap (λ n. file_output g.C.Cost.costs g.C.Cost.title n c.args.input.now) count)
-    c.print-loaded.ensures
+    c.print_loaded.ensures

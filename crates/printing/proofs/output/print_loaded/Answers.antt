@@ -7,8 +7,8 @@ use Rattle.printing.specs.Roots.{Wide}
 use Rattle.printing.proofs.LoadLaws.{blank_wide, loaded_wide, answer_told, reports_told}
 use Rattle.printing.proofs.output.print_loaded.Goals as goal
 
-pub all-reports-requires : goal.all-reports-requires
-all-reports-requires g c =
+pub all_reports-requires : goal.all_reports-requires
+all_reports-requires g c =
     let opened = ap (λ (a : areas.Area). a.pages) c.open-area.ensures.area in
     loaded_wide _ (area_of g.T.LinkTable c.open-area.result) _ (area_of g.T.LinkTable c.load.new.self) c.load.ensures.area (subst Wide (sym opened) blank_wide)
 
@@ -19,7 +19,7 @@ returns-in-Ok g c =
     let told = reports_told g.C.Cost.costs g.C.Cost.title (g.T.LinkTable.count c.args.table) c.args.input.now
     (area_of g.T.LinkTable a) (ap (means g.T.LinkTable) c.open-area.ensures.table ∙ c.requires)
     (Ok tt) (area_of g.T.LinkTable b) c.in-Ok.ensures.area (g.T.LinkTable.laws b.table.below) refl in
-    IfOk-weaker c.all-reports.result _ _ (λ bytes e. e ∙ told) c.all-reports.ensures
+    IfOk-weaker c.all_reports.result _ _ (λ bytes e. e ∙ told) c.all_reports.ensures
 
 pub returns : goal.returns
 returns g c =
@@ -28,4 +28,4 @@ returns g c =
     let told = answer_told g.C.Cost.costs g.C.Cost.title (g.T.LinkTable.count c.args.table) c.args.input.now
     (area_of g.T.LinkTable a) (ap (means g.T.LinkTable) c.open-area.ensures.table ∙ c.requires)
     (Err c.in-Err.fault) (area_of g.T.LinkTable b) c.in-Err.ensures.area in
-    IfOk-weaker c.tell-fault.result _ _ (λ bytes e. e ∙ told) c.tell-fault.ensures
+    IfOk-weaker c.tell_fault.result _ _ (λ bytes e. e ∙ told) c.tell_fault.ensures

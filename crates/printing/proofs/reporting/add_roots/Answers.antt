@@ -6,8 +6,8 @@ use Rattle.printing.specs.Output.{reports_text}
 use Rattle.printing.specs.Roots.{root_text}
 use Rattle.printing.proofs.reporting.add_roots.Goals as goal
 
-pub add-root-requires : goal.add-root-requires
-add-root-requires g c =
+pub add_root-requires : goal.add_root-requires
+add_root-requires g c =
     record {
       inside = omega (arith, c.count-root-end.ensures.value, ap (λ (t : Table). t.count) c.loop-root.invariant.1);
       pages = c.loop-root.invariant.2;
@@ -22,7 +22,7 @@ pub loop-root-preserved : goal.loop-root-preserved
 unfolding gather
 loop-root-preserved g c =
     let inv = c.loop-root.invariant in
-    let added = c.in-ok-add-root.ensures in
+    let added = c.in_ok-add_root.ensures in
     (rw add-one (added.text ∙ (λ i. inv.0 i ++ root_text g.C.Cost.costs (inv.1 i) c.loop-root.root)), added.table ∙ inv.1, added.pages)
 
 pub returns : goal.returns

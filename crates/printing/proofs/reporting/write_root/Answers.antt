@@ -16,8 +16,8 @@ returns g c =
     let report = c.report.ensures in
     let pages = settled_pages k a c.args.root laws c.requires.inside c.requires.pages c.settle.result b
     c.args.best.now c.args.rest.now c.settle.new.best c.settle.new.rest c.args.waiting.now c.settle.new.waiting c.requires.room settle in
-    let told = reported k a c.args.root laws c.requires.inside c.requires.pages b settle.table pages c.report.result c.unwrap-or.result c.args.out.now c.report.new.out
-    c.requires.bytes c.unwrap-or.ensures report.answer report.memory report.fits in
+    let told = reported k a c.args.root laws c.requires.inside c.requires.pages b settle.table pages c.report.result c.unwrap_or.result c.args.out.now c.report.new.out
+    c.requires.bytes c.unwrap_or.ensures report.answer report.memory report.fits in
     record {
       fits = told.fits;
       report = told.front;

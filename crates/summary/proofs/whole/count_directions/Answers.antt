@@ -26,9 +26,9 @@ counted s t d e stood =
     }
 
 -- what a turn counted
-turn : (c : goal.In-Some) → Counted (stands c.loop-many.reader) (stands c.next-direction.new.reader)
+turn : (c : goal.In-Some) → Counted (stands c.loop-many.reader) (stands c.next_direction.new.reader)
 turn c =
-    let line = c.in-ok-next-direction.ensures in
+    let line = c.in_ok-next_direction.ensures in
     counted _ _ c.in-Some.field-0 (ap Ok (sym c.in-Some.is) ∙ line.answer) line.reader
 
 -- how the directions end, well or by a fault, from where the last reading began
@@ -47,8 +47,8 @@ module _ (many : ℕ) (s start : Standing) (n : many + length (list_all s).direc
   unfolding tallied
   ended_ill f e = ap tallied (sym (ap (λ (l : Listing). l.ended) (list_all_err s f e)) ∙ ends)
 
-pub overflow-add-many : goal.overflow-add-many
-overflow-add-many c =
+pub overflow_add-many : goal.overflow_add-many
+overflow_add-many c =
     let t = turn c in
     let s = c.args.reader.now in
     omega (arith, t.less, c.loop-many.invariant.2, length-drop s.at s.text.now)
@@ -61,13 +61,13 @@ loop-many-preserved c =
 pub loop-many-smaller : goal.loop-many-smaller
 loop-many-smaller c = (turn c).less
 
-pub returns-in-err-next-direction : goal.returns-in-err-next-direction
-returns-in-err-next-direction c =
-    let p = err_from_is_err_and c.from-residual.result c.from-residual.ensures.1 in
+pub returns-in_err-next_direction : goal.returns-in_err-next_direction
+returns-in_err-next_direction c =
+    let p = err_from_is_err_and c.from_residual.result c.from_residual.ensures.1 in
     let inv = c.loop-many.invariant in
-    rw (p.1, p.2) (ended_ill c.loop-many.many (stands c.loop-many.reader) (stands c.args.reader.now) inv.0 inv.1 _ c.in-err-next-direction.ensures.answer)
+    rw (p.1, p.2) (ended_ill c.loop-many.many (stands c.loop-many.reader) (stands c.args.reader.now) inv.0 inv.1 _ c.in_err-next_direction.ensures.answer)
 
 pub returns : goal.returns
 returns c =
     let inv = c.loop-many.invariant in
-    ended_well c.loop-many.many (stands c.loop-many.reader) (stands c.args.reader.now) inv.0 inv.1 (ap Ok (sym c.in-default.is) ∙ c.in-ok-next-direction.ensures.answer)
+    ended_well c.loop-many.many (stands c.loop-many.reader) (stands c.args.reader.now) inv.0 inv.1 (ap Ok (sym c.in-default.is) ∙ c.in_ok-next_direction.ensures.answer)

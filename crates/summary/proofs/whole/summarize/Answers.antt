@@ -9,14 +9,14 @@ use Rattle.summary.proofs.whole.summarize.Goals as goal
 both : (text : List ℕ) (r : Result Summary Fault) → r ≡ summary text → record { answer : r ≡ summary text; exact : GrantedExactly text r }
 both text r is = record { answer = is; exact = subst (GrantedExactly text) (sym is) (granted_exactly text) }
 
-pub returns-in-err-routers : goal.returns-in-err-routers
-returns-in-err-routers c = both c.args.text.now c.from-residual.result (search rules)
+pub returns-in_err-routers : goal.returns-in_err-routers
+returns-in_err-routers c = both c.args.text.now c.from_residual.result (search rules)
 
-pub returns-in-err-rule : goal.returns-in-err-rule
-returns-in-err-rule c = both c.args.text.now c.from-residual-in-err-rule.result (search rules)
+pub returns-in_err-rule : goal.returns-in_err-rule
+returns-in_err-rule c = both c.args.text.now c.from_residual-in_err-rule.result (search rules)
 
-pub returns-in-err-directions : goal.returns-in-err-directions
-returns-in-err-directions c = both c.args.text.now c.from-residual-in-err-directions.result (search rules)
+pub returns-in_err-directions : goal.returns-in_err-directions
+returns-in_err-directions c = both c.args.text.now c.from_residual-in_err-directions.result (search rules)
 
 pub returns : goal.returns
 returns c = both c.args.text.now _ (search rules)

@@ -9,6 +9,6 @@ returns-in-Err g c =
     let d = c.args.d in
     let put = c.in-Err.ensures.area in
     record {
-      answer = ap Err c.on-line.ensures ∙ fault_told c.in-Err.fault d.line (put_fault g.C.Cost.costs (means g.T.LinkTable c.args.self.now.table.below) d.from d.to d.number) put.answer;
+      answer = ap Err c.on_line.ensures ∙ fault_told c.in-Err.fault d.line (put_fault g.C.Cost.costs (means g.T.LinkTable c.args.self.now.table.below) d.from d.to d.number) put.answer;
       area = record { answer = refl; table = put.table; pages = put.pages };
     }

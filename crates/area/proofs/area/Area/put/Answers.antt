@@ -5,10 +5,10 @@ use Rattle.area.specs.declared.area.Area.{Area}
 use Rattle.area.proofs.Puts.{is_pair_granted, put_refused}
 use Rattle.area.proofs.area.Area.put.Goals as goal
 
-pub returns-in-err-put : goal.returns-in-err-put
-returns-in-err-put g c =
-    let p = err_from_is_err_and c.from-residual.result c.from-residual.ensures.1 in
-    let own = c.in-err-put.ensures in
+pub returns-in_err-put : goal.returns-in_err-put
+returns-in_err-put g c =
+    let p = err_from_is_err_and c.from_residual.result c.from_residual.ensures.1 in
+    let own = c.in_err-put.ensures in
     rw (p.1, p.2)
     record {
       area = put_refused g.C.Cost.costs c.args.from c.args.to c.args.number

@@ -2,5 +2,5 @@ use Rattle.std.proofs.Common.{arith}
 use Rattle.costs.specs.SumLaws.{joins_bound}
 use Rattle.costs.proofs.sum.U32Cost.join.Goals as goal
 
-pub overflow-add-result : goal.overflow-add-result
-overflow-add-result c = omega (arith, joins_bound c.requires.left, joins_bound c.requires.right, c.requires.few)
+pub overflow_add-result : goal.overflow_add-result
+overflow_add-result c = omega (arith, joins_bound c.requires.left, joins_bound c.requires.right, c.requires.few)

@@ -17,7 +17,7 @@ returns-then-len-rest c =
     let same = take_rest text reader.at in
     let (answer, place, count) = unended (drop reader.at text) reader.line (sym (c.find-len.ensures ∙ ap (before 10) same) ∙ c.if-len-rest.true ∙ ap length same) in
     record {
-      answer = ap Err c.bad-line.ensures ∙ sym answer;
+      answer = ap Err c.bad_line.ensures ∙ sym answer;
       text = refl;
       parts = tt;
       reader = stood text reader.at reader.line (drop reader.at text) _ _ (omega (arith, place)) (omega (arith, count));
@@ -33,14 +33,14 @@ ends_inside c =
     let ne : c.find-len.result ≡ length (drop at text) → ⊥ = λ e. c.if-len-rest.false (e ∙ sym (ap length same)) in
     omega (arith, n, ne, before_le 10 (drop at text), length-drop at text, c.args.self.now.inside)
 
-pub overflow-add-self : goal.overflow-add-self
-overflow-add-self c = omega (arith, ends_inside c)
+pub overflow_add-self : goal.overflow_add-self
+overflow_add-self c = omega (arith, ends_inside c)
 
-pub overflow-add-self-2 : goal.overflow-add-self-2
-overflow-add-self-2 c = omega (arith, ends_inside c)
+pub overflow_add-self-2 : goal.overflow_add-self-2
+overflow_add-self-2 c = omega (arith, ends_inside c)
 
-pub invariant-of-self : goal.invariant-of-self
-invariant-of-self c = (omega (arith, ends_inside c), (omega (arith, c.args.self.now.lines), tt))
+pub invariant_of-self : goal.invariant_of-self
+invariant_of-self c = (omega (arith, ends_inside c), (omega (arith, c.args.self.now.lines), tt))
 
 pub returns : goal.returns
 returns c =
@@ -53,8 +53,8 @@ returns c =
     let more = ended rest line (λ e. c.if-len-rest.false (n ∙ e ∙ sym (ap length same))) in
     let body : take (c.find-len.result - 0) (take (length text.now - at) rest) ≡ take (before 10 rest) rest = λ i. take ((sub-zero c.find-len.result ∙ n) i) (same i) in
     record {
-      answer = c.take-apart.ensures.answer ∙ ap (λ b. apart b line) body ∙ sym more.0;
+      answer = c.take_apart.ensures.answer ∙ ap (λ b. apart b line) body ∙ sym more.0;
       text = refl;
-      parts = answer_parts_moved text _ at (record { block = refl; offset = omega arith }) c.take-apart.result c.take-apart.ensures.parts;
+      parts = answer_parts_moved text _ at (record { block = refl; offset = omega arith }) c.take_apart.result c.take_apart.ensures.parts;
       reader = stood text.now at line rest _ _ (omega (arith, more.1, n)) (omega (arith, more.2));
     }

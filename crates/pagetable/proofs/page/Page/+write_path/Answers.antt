@@ -9,10 +9,10 @@ returns-then-left-eq0 t c =
     record { many = w.many-is; memory = w.memory_is }
 
 pub bounds-out-at : goal.bounds-out-at
-bounds-out-at t c = omega (arith, c.write-path-at.ensures.many, path_length c.args.self.now.father (c.args.left - 1) c.in-Some.x)
+bounds-out-at t c = omega (arith, c.write_path-at.ensures.many, path_length c.args.self.now.father (c.args.left - 1) c.in-Some.x)
 
-pub overflow-add-result : goal.overflow-add-result
-overflow-add-result t c = omega (arith, c.write-path-at.ensures.many, path_length c.args.self.now.father (c.args.left - 1) c.in-Some.x)
+pub overflow_add-result : goal.overflow_add-result
+overflow_add-result t c = omega (arith, c.write_path-at.ensures.many, path_length c.args.self.now.father (c.args.left - 1) c.in-Some.x)
 
 pub returns-in-None : goal.returns-in-None
 returns-in-None t c =
@@ -22,11 +22,11 @@ returns-in-None t c =
 pub returns-in-Some : goal.returns-in-Some
 returns-in-Some t c =
     let some : 0 < c.args.left = omega arith in
-    let n = c.write-path-at.ensures.many in
-    let room : c.write-path-at.result < length c.args.out.now = omega (arith, n, path_length c.args.self.now.father (c.args.left - 1) c.in-Some.x) in
-    let w = wrote_more c.args.out.now _ (path_by c.args.self.now.father (c.args.left - 1) c.in-Some.x) _ c.write-path-at.result c.args.router n c.write-path-at.ensures.memory room
+    let n = c.write_path-at.ensures.many in
+    let room : c.write_path-at.result < length c.args.out.now = omega (arith, n, path_length c.args.self.now.father (c.args.left - 1) c.in-Some.x) in
+    let w = wrote_more c.args.out.now _ (path_by c.args.self.now.father (c.args.left - 1) c.in-Some.x) _ c.write_path-at.result c.args.router n c.write_path-at.ensures.memory room
     (path_on c.args.self.now.father c.args.router c.args.left c.in-Some.x some (sym c.in-Some.ensures)) in
     record { many = w.many-is; memory = w.memory_is }
 
 pub offset-bounds-out-at : goal.offset-bounds-out-at
-offset-bounds-out-at t c = omega (arith, c.write-path-at.ensures.many, path_length c.args.self.now.father (c.args.left - 1) c.in-Some.x)
+offset-bounds-out-at t c = omega (arith, c.write_path-at.ensures.many, path_length c.args.self.now.father (c.args.left - 1) c.in-Some.x)

@@ -1,4 +1,4 @@
 use Rattle.pagetable.proofs.page.Page.+write_path.Given as goal
 
-abbrev pub decreases-write-path : goal.decreases-write-path
-decreases-write-path l = l.left
+abbrev pub decreases-write_path : goal.decreases-write_path
+decreases-write_path l = l.left

@@ -7,4 +7,4 @@ pub returns-then-router-ge32 : goal.returns-then-router-ge32
 returns-then-router-ge32 c =
     let v = sym (get_or_past c.args.self.now.valid c.args.router 0 (omega arith)) in
     let k = sym (get_or_past c.args.self.now.candidates c.args.router 0 (omega arith)) in
-    λ i. (c.hop-of-hop.ensures i, v i, (c.without.ensures ∙ (λ j. besides (k j) (v j))) i)
+    λ i. (c.hop_of-hop.ensures i, v i, (c.without.ensures ∙ (λ j. besides (k j) (v j))) i)

@@ -7,11 +7,11 @@ pub loop-root-init : goal.loop-root-init
 loop-root-init c = current_none c.args.self.now
 
 pub loop-root-preserved : goal.loop-root-preserved
-loop-root-preserved c = current_more c.args.self.now c.loop-root.root c.loop-root.invariant (sym c.if-not-is-current.ensures)
+loop-root-preserved c = current_more c.args.self.now c.loop-root.root c.loop-root.invariant (sym c.if-not-is_current.ensures)
 
-pub returns-then-not-is-current : goal.returns-then-not-is-current
-returns-then-not-is-current c =
-    sym (current_fails c.args.self.now c.args.count c.loop-root.root c.loop-root-test.true (sym c.if-not-is-current.ensures))
+pub returns-then-not-is_current : goal.returns-then-not-is_current
+returns-then-not-is_current c =
+    sym (current_fails c.args.self.now c.args.count c.loop-root.root c.loop-root-test.true (sym c.if-not-is_current.ensures))
 
 pub returns : goal.returns
 returns c =

@@ -3,8 +3,8 @@ use Rattle.records.proofs.Making.{made_tidy, made_table}
 use Rattle.records.proofs.records.Records.make.Goals as goal
 use Rattle.records.specs.Lists.{emptied, list_table, Tidy}
 
-pub invariant-of-result : goal.invariant-of-result
-invariant-of-result c =
+pub invariant_of-result : goal.invariant_of-result
+invariant_of-result c =
     (subst (λ rs. Tidy rs c.routers-n.result) (sym c.clear.ensures) (made_tidy c.args.records.now c.args.count c.routers-n.result c.routers-n.ensures), tt)
 
 pub returns : goal.returns

@@ -9,14 +9,14 @@ pub returns-in-default : goal.returns-in-default
 returns-in-default c =
     let before = list_table c.args.self.now.records.now c.args.self.now.count in
     record {
-      table = subst (λ f. Cut c.args.from c.args.to before (Err f) before) (sym c.of-table-in-default.ensures) (cut_not_kept c.args.self.now.records.now c.args.self.now.count c.args.from c.args.to c.args.self.now.ok (omega arith) (omega arith) (omega arith) c.in-default.ensures);
+      table = subst (λ f. Cut c.args.from c.args.to before (Err f) before) (sym c.of_table-in-default.ensures) (cut_not_kept c.args.self.now.records.now c.args.self.now.count c.args.from c.args.to c.args.self.now.ok (omega arith) (omega arith) (omega arith) c.in-default.ensures);
       refused = refl;
       records = refl;
       same = refl;
     }
 
-pub invariant-of-self : goal.invariant-of-self
-invariant-of-self c =
+pub invariant_of-self : goal.invariant_of-self
+invariant_of-self c =
     (cut_tidy c.args.self.now.records.now c.args.self.now.count c.args.from c.args.to c.args.self.now.ok (omega arith) (omega arith) (omega arith) c.in-Some.i c.in-Some.ensures, tt)
 
 pub returns : goal.returns

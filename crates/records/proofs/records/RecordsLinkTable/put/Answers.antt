@@ -9,14 +9,14 @@ pub returns-in-default : goal.returns-in-default
 returns-in-default c =
     let before = list_table c.args.self.now.records.now c.args.self.now.count in
     record {
-      table = subst (λ f. Put c.args.from c.args.to c.args.number before (Err f) before) (sym c.of-table-in-default.ensures) (put_full c.args.self.now.records.now c.args.self.now.count c.args.from c.args.to c.args.self.now.ok (omega arith) (omega arith) (omega arith) c.args.number c.in-default.ensures (omega arith) (omega arith));
+      table = subst (λ f. Put c.args.from c.args.to c.args.number before (Err f) before) (sym c.of_table-in-default.ensures) (put_full c.args.self.now.records.now c.args.self.now.count c.args.from c.args.to c.args.self.now.ok (omega arith) (omega arith) (omega arith) c.args.number c.in-default.ensures (omega arith) (omega arith));
       refused = refl;
       records = refl;
       same = refl;
     }
 
-pub invariant-of-self : goal.invariant-of-self
-invariant-of-self c =
+pub invariant_of-self : goal.invariant_of-self
+invariant_of-self c =
     (put_tidy c.args.self.now.records.now c.args.self.now.count c.args.from c.args.to c.args.self.now.ok (omega arith) (omega arith) (omega arith) c.args.number c.in-Some.i c.in-Some.ensures, tt)
 
 pub returns : goal.returns

@@ -6,12 +6,12 @@ use Rattle.waiting.proofs.Sifts.{heavy_step, heavy_end}
 use Rattle.waiting.proofs.Stirs.{stirred_swap, swapped}
 use Rattle.waiting.proofs.list.Waiting.sift_down.Goals as goal
 
-pub returns-then-not-is-before : goal.returns-then-not-is-before
-returns-then-not-is-before g c =
+pub returns-then-not-is_before : goal.returns-then-not-is_before
+returns-then-not-is_before g c =
     let o = g.met.E.Ranked.ordered in
     record {
       stirred = c.loop-at.invariant.0;
-      heaped = λ l. heavy_end o (memory c.loop-at.self) c.loop-at.self.len c.loop-at.at c.least-child-child.result c.least-child-child.ensures c.if-not-is-before.ensures (c.loop-at.invariant.1 l);
+      heaped = λ l. heavy_end o (memory c.loop-at.self) c.loop-at.self.len c.loop-at.at c.least_child-child.result c.least_child-child.ensures c.if-not-is_before.ensures (c.loop-at.invariant.1 l);
     }
 
 pub loop-at-preserved : goal.loop-at-preserved
@@ -20,18 +20,18 @@ loop-at-preserved g c =
     let v = c.loop-at.self in
     let u = c.swap.new.self in
     let at = c.loop-at.at in
-    let m = c.least-child-child.ensures in
-    let child = c.least-child-child.result in
+    let m = c.least_child-child.ensures in
+    let child = c.least_child-child.result in
     let is = c.swap.ensures in
     let below : at < v.len = omega arith in
     let stirred = stirred_swap _ v u at child c.loop-at.invariant.0 is.len is.after is.handed below m.within in
-    let step = heavy_step o (memory v) (memory u) v.len at child v.within m c.if-not-is-before.ensures (swapped v u at child is.after below m.within) in
+    let step = heavy_step o (memory v) (memory u) v.len at child v.within m c.if-not-is_before.ensures (swapped v u at child is.after below m.within) in
     (stirred, λ l. subst (λ n. Heavy g.E.Ranked.before (memory u) n child) (sym is.len) (step (c.loop-at.invariant.1 l)))
 
 pub loop-at-smaller : goal.loop-at-smaller
 loop-at-smaller g c =
-    let m = c.least-child-child.ensures in
-    let child = c.least-child-child.result in
+    let m = c.least_child-child.ensures in
+    let child = c.least_child-child.result in
     let deeper : depth child ≡ 1 + depth c.loop-at.at = depth_more child m.above ∙ ap (λ k. 1 + depth k) m.child in
     let inside : child ≤ c.args.self.now.len = omega (arith, m.within, c.loop-at.invariant.0.len) in
     omega (arith, deeper, depth_rises child c.args.self.now.len inside)

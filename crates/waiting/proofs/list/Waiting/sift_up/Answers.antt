@@ -6,12 +6,12 @@ use Rattle.waiting.proofs.Sifts.{light_step, light_end}
 use Rattle.waiting.proofs.Stirs.{stirred_swap, swapped}
 use Rattle.waiting.proofs.list.Waiting.sift_up.Goals as goal
 
-pub returns-then-not-is-before : goal.returns-then-not-is-before
-returns-then-not-is-before g c =
+pub returns-then-not-is_before : goal.returns-then-not-is_before
+returns-then-not-is_before g c =
     let o = g.met.E.Ranked.ordered in
     record {
       stirred = c.loop-at.invariant.1;
-      heaped = λ l. light_end o (memory c.loop-at.self) c.loop-at.self.len c.loop-at.at (λ _. c.if-not-is-before.ensures) (c.loop-at.invariant.2 l);
+      heaped = λ l. light_end o (memory c.loop-at.self) c.loop-at.self.len c.loop-at.at (λ _. c.if-not-is_before.ensures) (c.loop-at.invariant.2 l);
     }
 
 pub loop-at-preserved : goal.loop-at-preserved
@@ -24,7 +24,7 @@ loop-at-preserved g c =
     let is = c.swap.ensures in
     let below : p < v.len = omega arith in
     let stirred = stirred_swap _ v u p at c.loop-at.invariant.1 is.len is.after is.handed below c.loop-at.invariant.0 in
-    let step = light_step o (memory v) (memory u) v.len at c.loop-at-test.true c.loop-at.invariant.0 c.if-not-is-before.ensures (swapped v u p at is.after below c.loop-at.invariant.0) in
+    let step = light_step o (memory v) (memory u) v.len at c.loop-at-test.true c.loop-at.invariant.0 c.if-not-is_before.ensures (swapped v u p at is.after below c.loop-at.invariant.0) in
     (omega arith, stirred, λ l. subst (λ n. Light g.E.Ranked.before (memory u) n p) (sym is.len) (step (c.loop-at.invariant.2 l)))
 
 pub loop-at-smaller : goal.loop-at-smaller
