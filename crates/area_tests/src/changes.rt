@@ -70,7 +70,7 @@ fn numbers_under_sum(rt: HostRuntime) {
     puts_by_sum(&rt, Records::make(&mut room, 2));
 }
 
-// `hops_width` reads every number but 0: the rest is up to the table.
+// `hops-width` reads every number but 0: the rest is up to the table.
 #[test]
 fn numbers_under_hops_width(rt: HostRuntime) {
     let mut cells = [0u16; 4];

@@ -54,7 +54,7 @@ fn load_by_sum(text: &[u8]) -> Result<(), Fault> {
     area.load(text)
 }
 
-// The same, under `hops_width`.
+// The same, under `hops-width`.
 fn load_by_width(text: &[u8]) -> Result<(), Fault> {
     let mut cells = [0u16; 4];
     let mut area: Area<PathCost, Grid> = Area::open(Grid::make(&mut cells, 2));

@@ -1,4 +1,4 @@
--- The rule `hops_width` keeps the laws, and the join of m link costs has m hops.
+-- The rule `hops-width` keeps the laws, and the join of m link costs has m hops.
 use Rattle.std.specs.Prelude.{◌≡◌, ℕ, ◌^◌, ◌<◌, Bool, true, false, cond, ◌&&◌, Some, None, nat_le, refl}
 use Rattle.std.proofs.Common.{ap, sym, arith}
 use mathlib.Core.HLevel.{is_prop→PathP}

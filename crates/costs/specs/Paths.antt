@@ -1,4 +1,4 @@
--- The rule `hops_width`: fewer hops, and then the greater width of the narrowest link.
+-- The rule `hops-width`: fewer hops, and then the greater width of the narrowest link.
 use Rattle.std.specs.Prelude.{ℕ, ◌+◌, ◌^◌, ◌<◌, min, Bool, cond, ◌&&◌, ◌||◌, Some, None, Option, ◌==◌, nat_le, nat_lt}
 use Rattle.std.proofs.Common.{lit<, arith}
 use Rattle.costs.specs.declared.path.PathCost.{PathCost}

@@ -38,7 +38,7 @@ number_or_none (Err f) = 0
 abbrev pub file_count : List ℕ → ℕ
 file_count text = number_or_none (next_number routers (start text))
 
--- whether a file names the rule `hops_width`; any other name, and a line at fault, is left to the rule `sum`
+-- whether a file names the rule `hops-width`; any other name, and a line at fault, is left to the rule `sum`
 abbrev pub is_hops_width : Result (List ℕ) Fault → Bool
 is_hops_width (Ok name) = bytes_eq name (codes "hops-width")
 is_hops_width (Err f) = false

@@ -16,7 +16,7 @@ pub(crate) fn file_count(input: &[u8]) -> usize
     }
 }
 
-// Whether the second line names the rule `hops_width`, whatever the first line says.
+// Whether the second line names the rule `hops-width`, whatever the first line says.
 pub(crate) fn names_hops_width(input: &[u8]) -> bool
     ensures { result ≡ file_by_width input.now }
 {

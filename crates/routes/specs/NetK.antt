@@ -26,7 +26,7 @@ numbers_K = both_directions ((0, 1, 1) ∷ (0, 2, 3) ∷ (1, 3, 2) ∷ (2, 3, 1)
 abbrev pub K : Network ℕ
 K = standing sum 5 numbers_K
 
--- Net K under the rule `hops_width`
+-- Net K under the rule `hops-width`
 abbrev pub W : Network PathCost
 W = standing hops_width 5 numbers_K
 
@@ -72,7 +72,7 @@ pub record NetK : Type 0 where
   pub best_2_to_1 : best K 2 1 ≡ Some 3
   pub valid_2_to_1 : (page_of K 2).valid 1 ≡ 2 ^ 0 + 2 ^ 3
   pub rest_2_to_1 : (rest_of K 2 0 1 ≡ Some 1) × (rest_of K 2 3 1 ≡ Some 2)
-  -- page 0 under `hops_width`, to 3
+  -- page 0 under `hops-width`, to 3
   pub best_by_width : hops_and_width (best W 0 3) ≡ Some (2, 1)
   pub rest_by_width : (hops_and_width (rest_of W 0 1 3) ≡ Some (1, 2)) × (hops_and_width (rest_of W 0 2 3) ≡ Some (1, 1))
   pub valid_by_width : (page_of W 0).valid 3 ≡ 2 ^ 1 + 2 ^ 2

@@ -25,5 +25,5 @@ pub trait Ranked: Copy {
 // Over every list of pushes and pops on an empty list, each pop answers the lowest of the
 // entries that wait, and no entry is lost or made up.
 pub fn lowest_first<E: Ranked>()
-    ensures { LowestFirst before }
+    ensures { LowestFirst E.before }
 {}

@@ -76,5 +76,5 @@ loop-entry-preserved g c = (
 pub returns : goal.returns
 returns g c =
     running_end g.met.C.Cost.lawful c.requires.square c.requires.inside c.loop-entry.invariant.0
-    c.in-default.ensures.answer.none c.args.best.now (omega (arith, c.requires.places))
+    c.in_default.ensures.answer.none c.args.best.now (omega (arith, c.requires.places))
     (c.loop-entry.invariant.1 ∙ c.offer-known.ensures.past c.args.count (omega (arith, c.requires.inside)) ∙ c.clear.ensures.rest)

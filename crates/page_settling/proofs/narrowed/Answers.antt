@@ -4,7 +4,7 @@ use Rattle.std.proofs.lemmas.List.{get_or_past}
 use Rattle.passes.proofs.Trees.{all_none}
 use Rattle.page_settling.proofs.Fills.{filled_first, filled_write, filled_keep, filled_all}
 use Rattle.page_settling.proofs.narrowed.Goals as goal
-use Rattle.page_settling.proofs.narrowed.Goals.{in-Some, in-default}
+use Rattle.page_settling.proofs.narrowed.Goals.{in-Some, in_default}
 
 pub loop-d-init : goal.loop-d-init
 loop-d-init c = filled_first _ _ _
@@ -16,7 +16,7 @@ pub loop-d-preserved : goal.loop-d-preserved
 loop-d-preserved c =
     elim c.match-routers-d.branch [
       | in-Some w ↦ filled_write c.loop-d.invariant _ (Some w.in-Some.x) w.bytes-is (omega arith) (sym w.in-Some.is)
-      | in-default w ↦ filled_keep c.loop-d.invariant _ w.bytes-is (all_none 32 c.loop-d.d ∙ sym w.in-default.is)
+      | in_default w ↦ filled_keep c.loop-d.invariant _ w.bytes-is (all_none 32 c.loop-d.d ∙ sym w.in_default.is)
     ]
 
 pub returns : goal.returns

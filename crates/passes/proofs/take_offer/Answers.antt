@@ -5,12 +5,12 @@ use Rattle.passes.proofs.Offers.{known_cost, no_cost, not_offered, not_taken, ta
 use Rattle.passes.proofs.take_offer.Goals as goal
 use Rattle.passes.proofs.take_offer.Goals.{else-has-via-then-has+else-not-lower, else-has-via-else-has}
 
-pub returns-in-default : goal.returns-in-default
-returns-in-default g c =
+pub returns-in_default : goal.returns-in_default
+returns-in_default g c =
     let rule = g.C.Cost.costs in
     let f = costs_in rule c.args.row.now c.args.reached in
     record {
-      costs = λ d. not_offered rule c.args.row.now c.args.reached c.args.to d ∙ sym (ap (λ o. with_offer rule f c.args.to o d) c.in-default.is);
+      costs = λ d. not_offered rule c.args.row.now c.args.reached c.args.to d ∙ sym (ap (λ o. with_offer rule f c.args.to o d) c.in_default.is);
       others = λ k _. refl;
       size = refl;
     }

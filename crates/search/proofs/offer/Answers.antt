@@ -6,14 +6,14 @@ use Rattle.search.proofs.Offers.{with_room, known_cost, no_cost, not_offered, no
 use Rattle.search.proofs.offer.Goals as goal
 use Rattle.search.proofs.offer.Goals.{else-has-via-then-has+else-not-lower, else-has-via-else-has}
 
-pub returns-in-default : goal.returns-in-default
-returns-in-default g c =
+pub returns-in_default : goal.returns-in_default
+returns-in_default g c =
     let rule = g.C.Cost.costs in
     let best = c.args.best.now in
     let known = c.args.known in
     let w = c.args.list.now in
     let to = c.args.to in
-    subst (λ o. Step rule (with_offer rule (costs_in rule best known) to o) (to + 1) 1 best known w best known w) (sym c.in-default.is) (not_offered rule best known w to)
+    subst (λ o. Step rule (with_offer rule (costs_in rule best known) to o) (to + 1) 1 best known w best known w) (sym c.in_default.is) (not_offered rule best known w to)
 
 pub returns-then-not-lower : goal.returns-then-not-lower
 returns-then-not-lower g c =

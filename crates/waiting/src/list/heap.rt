@@ -13,7 +13,7 @@ impl<'a, E: Ranked> Waiting<'a, E> {
     pub fn new(entries: &'a mut [E]) -> Waiting<'a, E>
         ensures len { result.len ≡ 0 }
         ensures memory { memory result ≡ entries.old }
-        ensures ordered { InOrder before result }
+        ensures ordered { InOrder E.before result }
         ensures handed { handed result ≡ entries.entry.ghost_name }
     {
         Waiting { entries, len: 0 }
@@ -21,7 +21,7 @@ impl<'a, E: Ranked> Waiting<'a, E> {
 
     // Adds an entry, or refuses by `Full` where no place is left.
     pub fn push(&mut self, e: E) -> Result<(), Refusal>
-        ensures answer { PushAnswer before e self.old self.new result }
+        ensures answer { PushAnswer E.before e self.old self.new result }
         ensures handed { handed self.new ≡ handed self.old }
     {
         let at = self.len;
@@ -36,7 +36,7 @@ impl<'a, E: Ranked> Waiting<'a, E> {
 
     // Takes out the lowest entry, or answers that none waits.
     pub fn pop(&mut self) -> Option<E>
-        ensures answer { PopAnswer before self.old self.new result }
+        ensures answer { PopAnswer E.before self.old self.new result }
         ensures handed { handed self.new ≡ handed self.old }
     {
         if self.len == 0 {
@@ -54,7 +54,7 @@ impl<'a, E: Ranked> Waiting<'a, E> {
     fn sift_up(&mut self, mut at: usize)
         requires { at < self.old.len }
         ensures stirred { Stirred self.old self.new }
-        ensures heaped { Light before (memory self.old) self.old.len at → Heaped before (memory self.new) self.new.len }
+        ensures heaped { Light E.before (memory self.old) self.old.len at → Heaped E.before (memory self.new) self.new.len }
     {
         while at > 0 {
             let parent = (at - 1) / 2;
@@ -69,7 +69,7 @@ impl<'a, E: Ranked> Waiting<'a, E> {
     // Moves the first entry down, until none of its children comes before it.
     fn sift_down(&mut self)
         ensures stirred { Stirred self.old self.new }
-        ensures heaped { Heavy before (memory self.old) self.old.len 0 → Heaped before (memory self.new) self.new.len }
+        ensures heaped { Heavy E.before (memory self.old) self.old.len 0 → Heaped E.before (memory self.new) self.new.len }
     {
         let mut at = 0;
         while at < self.len / 2 {
@@ -85,7 +85,7 @@ impl<'a, E: Ranked> Waiting<'a, E> {
     // The child of `at` before which its other child does not come.
     fn least_child(&self, at: usize) -> usize
         requires { 2 * at + 1 < self.now.len }
-        ensures { LeastChild before (memory self.now) self.now.len at result }
+        ensures { LeastChild E.before (memory self.now) self.now.len at result }
     {
         let left = 2 * at + 1;
         if left + 1 < self.len && self.is_before(left + 1, left) {
@@ -97,7 +97,7 @@ impl<'a, E: Ranked> Waiting<'a, E> {
 
     fn is_before(&self, i: usize, j: usize) -> bool
         requires { (i < self.now.len) × (j < self.now.len) }
-        ensures { (d : E) → before (slice_index_or (memory self.now) i d) (slice_index_or (memory self.now) j d) ≡ result }
+        ensures { (d : E) → E.before (slice_index_or (memory self.now) i d) (slice_index_or (memory self.now) j d) ≡ result }
     {
         compare(self.entries, i, j)
     }
@@ -117,7 +117,7 @@ impl<'a, E: Ranked> Waiting<'a, E> {
 
 fn compare<E: Ranked>(entries: &[E], i: usize, j: usize) -> bool
     requires { (i < length entries.now) × (j < length entries.now) }
-    ensures { (d : E) → before (slice_index_or entries.now i d) (slice_index_or entries.now j d) ≡ result }
+    ensures { (d : E) → E.before (slice_index_or entries.now i d) (slice_index_or entries.now j d) ≡ result }
 {
     entries[i].precedes(entries[j])
 }

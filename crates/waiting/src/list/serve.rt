@@ -11,7 +11,7 @@ use faults::Refusal;
 impl<'a, E: Ranked> Waiting<'a, E> {
     // Makes one call.
     pub fn serve_one(&mut self, call: Call<E>) -> Answer<E>
-        ensures answer { Step before self.old call result self.new }
+        ensures answer { Step E.before self.old call result self.new }
         ensures handed { handed self.new ≡ handed self.old }
     {
         match call {
@@ -29,7 +29,7 @@ impl<'a, E: Ranked> Waiting<'a, E> {
     // Makes the calls in turn and writes down each answer, or refuses where the answers have too
     // few places.
     pub fn serve(&mut self, calls: &[Call<E>], answers: &mut [Answer<E>]) -> Result<(), Refusal>
-        ensures answer { ServeAnswer before calls.now self.old answers.old self.new answers.new result }
+        ensures answer { ServeAnswer E.before calls.now self.old answers.old self.new answers.new result }
         ensures handed { handed self.new ≡ handed self.old }
     {
         if answers.len() < calls.len() {

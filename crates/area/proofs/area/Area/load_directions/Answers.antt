@@ -36,4 +36,4 @@ returns-in_err-load_direction g c =
 
 pub returns : goal.returns
 returns g c =
-    ends_well g.C.Cost.costs _ _ _ _ c.loop-direction.invariant (ap Ok (sym c.in-default.is) ∙ c.in_ok-direction.ensures.answer)
+    ends_well g.C.Cost.costs _ _ _ _ c.loop-direction.invariant (ap Ok (sym c.in_default.is) ∙ c.in_ok-direction.ensures.answer)

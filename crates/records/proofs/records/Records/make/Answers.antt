@@ -5,7 +5,7 @@ use Rattle.records.specs.Lists.{emptied, list_table, Tidy}
 
 pub invariant_of-result : goal.invariant_of-result
 invariant_of-result c =
-    (subst (λ rs. Tidy rs c.routers-n.result) (sym c.clear.ensures) (made_tidy c.args.records.now c.args.count c.routers-n.result c.routers-n.ensures), tt)
+    record { ok = subst (λ rs. Tidy rs c.routers-n.result) (sym c.clear.ensures) (made_tidy c.args.records.now c.args.count c.routers-n.result c.routers-n.ensures) }
 
 pub returns : goal.returns
 returns c =

@@ -5,11 +5,11 @@ use Rattle.records.proofs.records.RecordsLinkTable.cut.Goals as goal
 use Rattle.tables.specs.Tables.{Cut}
 use Rattle.records.specs.Lists.{list_table, link_of, held_at}
 
-pub returns-in-default : goal.returns-in-default
-returns-in-default c =
+pub returns-in_default : goal.returns-in_default
+returns-in_default c =
     let before = list_table c.args.self.now.records.now c.args.self.now.count in
     record {
-      table = subst (λ f. Cut c.args.from c.args.to before (Err f) before) (sym c.of_table-in-default.ensures) (cut_not_kept c.args.self.now.records.now c.args.self.now.count c.args.from c.args.to c.args.self.now.ok (omega arith) (omega arith) (omega arith) c.in-default.ensures);
+      table = subst (λ f. Cut c.args.from c.args.to before (Err f) before) (sym c.of_table-in_default.ensures) (cut_not_kept c.args.self.now.records.now c.args.self.now.count c.args.from c.args.to c.args.self.now.ok (omega arith) (omega arith) (omega arith) c.in_default.ensures);
       refused = refl;
       records = refl;
       same = refl;
@@ -17,7 +17,7 @@ returns-in-default c =
 
 pub invariant_of-self : goal.invariant_of-self
 invariant_of-self c =
-    (cut_tidy c.args.self.now.records.now c.args.self.now.count c.args.from c.args.to c.args.self.now.ok (omega arith) (omega arith) (omega arith) c.in-Some.i c.in-Some.ensures, tt)
+    record { ok = cut_tidy c.args.self.now.records.now c.args.self.now.count c.args.from c.args.to c.args.self.now.ok (omega arith) (omega arith) (omega arith) c.in-Some.i c.in-Some.ensures }
 
 pub returns : goal.returns
 returns c =

@@ -5,11 +5,11 @@ use Rattle.records.proofs.records.RecordsLinkTable.put.Goals as goal
 use Rattle.tables.specs.Tables.{Put}
 use Rattle.records.specs.Lists.{list_table, link_of, place_of}
 
-pub returns-in-default : goal.returns-in-default
-returns-in-default c =
+pub returns-in_default : goal.returns-in_default
+returns-in_default c =
     let before = list_table c.args.self.now.records.now c.args.self.now.count in
     record {
-      table = subst (λ f. Put c.args.from c.args.to c.args.number before (Err f) before) (sym c.of_table-in-default.ensures) (put_full c.args.self.now.records.now c.args.self.now.count c.args.from c.args.to c.args.self.now.ok (omega arith) (omega arith) (omega arith) c.args.number c.in-default.ensures (omega arith) (omega arith));
+      table = subst (λ f. Put c.args.from c.args.to c.args.number before (Err f) before) (sym c.of_table-in_default.ensures) (put_full c.args.self.now.records.now c.args.self.now.count c.args.from c.args.to c.args.self.now.ok (omega arith) (omega arith) (omega arith) c.args.number c.in_default.ensures (omega arith) (omega arith));
       refused = refl;
       records = refl;
       same = refl;
@@ -17,7 +17,7 @@ returns-in-default c =
 
 pub invariant_of-self : goal.invariant_of-self
 invariant_of-self c =
-    (put_tidy c.args.self.now.records.now c.args.self.now.count c.args.from c.args.to c.args.self.now.ok (omega arith) (omega arith) (omega arith) c.args.number c.in-Some.i c.in-Some.ensures, tt)
+    record { ok = put_tidy c.args.self.now.records.now c.args.self.now.count c.args.from c.args.to c.args.self.now.ok (omega arith) (omega arith) (omega arith) c.args.number c.in-Some.i c.in-Some.ensures }
 
 pub returns : goal.returns
 returns c =
