@@ -1,5 +1,5 @@
 -- With two-way links, a second candidate is there exactly where a route leaves the root another way.
-use Rattle.std.proofs.Common.{◌≡◌, ℕ, zero, true, eqb, ◌≢◌, Some, sym, ap, ◌∙◌, subst, ⊎_elim}
+use Rattle.std.proofs.Common.{◌≡◌, ℕ, true, eqb, ◌≢◌, Some, sym, ap, ◌∙◌, subst, ⊎_elim}
 use Rattle.std.proofs.lemmas.Bool.{both_ways, cases_eq, not-true, eq-eqb}
 use Rattle.routes.specs.Network.{Network, Sound, TwoWay}
 use Rattle.routes.specs.Routes.{Through, stay, go, avoids, best}

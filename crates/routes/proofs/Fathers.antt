@@ -3,7 +3,6 @@ use Rattle.std.proofs.Common.{◌≡◌, ℕ, zero, suc, ◌<◌, true, false, n
 use Rattle.std.proofs.lemmas.Bool.{both_ways, cases_order, and_parts, not-true}
 use Rattle.costs.specs.Costs.{Costs, Laws}
 use Rattle.routes.specs.Leasts.{joined, same}
-use Rattle.routes.specs.Lists.{lowest}
 use Rattle.routes.specs.Network.{Network, Sound}
 use Rattle.routes.specs.Routes.{stay, go, Route, best}
 use Rattle.routes.specs.Tree.{Fathers, Chooses, possible_father, PossibleFather, lowest_father}

@@ -131,20 +131,20 @@ module _ {Cost : Type 0} (N : Network Cost) (sound : Sound N) (father : Fathers)
       (lowered_least (climbed N father root v) (rest N father root v) y (climbed_is N sound father chooses root v y) (λ p f. rest_least N sound father chooses root v p))
 
   -- and nothing else does
-  module _ (up_to_lem down_to : ℕ → Option Cost)
-      (climbing : (y : ℕ) → y < N.count → up_to_lem y ≡ lifted N father root v up_to_lem y)
-      (descending : (y : ℕ) → y < N.count → down_to y ≡ lowered N father root v up_to_lem down_to y) where
+  module _ (up_to down_to : ℕ → Option Cost)
+      (climbing : (y : ℕ) → y < N.count → up_to y ≡ lifted N father root v up_to y)
+      (descending : (y : ℕ) → y < N.count → down_to y ≡ lowered N father root v up_to down_to y) where
     abbrev dep : ℕ → ℕ
     dep = depth N sound root
 
     -- from the farthest router to the nearest
-    climbed_from : (k y : ℕ) → y < N.count → N.count ≤ k + dep y → IsLeast N.rule (Climb N father root v y) (up_to_lem y)
+    climbed_from : (k y : ℕ) → y < N.count → N.count ≤ k + dep y → IsLeast N.rule (Climb N father root v y) (up_to y)
     climbed_from zero y l h = absurd (omega (arith, depth_below N sound root y l))
     climbed_from (suc k) y l h =
         subst (IsLeast N.rule (Climb N father root v y)) (sym (climbing y l))
-        (lifted_least up_to_lem y (λ x l' f. climbed_from k x l' (omega (arith, father_depth N sound father chooses root x y f))))
+        (lifted_least up_to y (λ x l' f. climbed_from k x l' (omega (arith, father_depth N sound father chooses root x y f))))
 
-    pub climbed_least : (y : ℕ) → y < N.count → IsLeast N.rule (Climb N father root v y) (up_to_lem y)
+    pub climbed_least : (y : ℕ) → y < N.count → IsLeast N.rule (Climb N father root v y) (up_to y)
     climbed_least y l = climbed_from N.count y l (omega arith)
 
     -- from the nearest router to the farthest
@@ -155,7 +155,7 @@ module _ {Cost : Type 0} (N : Network Cost) (sound : Sound N) (father : Fathers)
             y < N.count → IsLeast N.rule (Transverse N father root v y) (down_to y)
         step y more l =
             subst (IsLeast N.rule (Transverse N father root v y)) (sym (descending y l))
-            (lowered_least up_to_lem down_to y (climbed_least y l)
+            (lowered_least up_to down_to y (climbed_least y l)
             (λ p f. let q = father_is N sound father chooses root y p f in more p f (sound.from p y q.last q.linked)))
 
     -- a solution of both passes is the rest cost

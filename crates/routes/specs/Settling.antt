@@ -63,23 +63,23 @@ module _ {Cost : Type 0} (N : Network Cost) (father : Fathers) (root v : ℕ) wh
 
   -- the cost at y that the costs of its children give
   unfoldable pub lifted : (ℕ → Option Cost) → ℕ → Option Cost
-  lifted up_to_lem y =
+  lifted up_to y =
       lesser N.rule (started y)
-      (cond (avoids root y) (least_below N.rule N.count (λ x. cond (is_number (father root x) y) (joined N.rule (up_to_lem x) (N.link x y)) None)) None)
+      (cond (avoids root y) (least_below N.rule N.count (λ x. cond (is_number (father root x) y) (joined N.rule (up_to x) (N.link x y)) None)) None)
 
   -- the cost at y that the cost of its father gives
   unfoldable pub lowered : (ℕ → Option Cost) → (ℕ → Option Cost) → ℕ → Option Cost
-  lowered up_to_lem down_to y = lesser N.rule (up_to_lem y) (when_some (father root y) None (λ p. joined N.rule (down_to p) (N.link p y)))
+  lowered up_to down_to y = lesser N.rule (up_to y) (when_some (father root y) None (λ p. joined N.rule (down_to p) (N.link p y)))
 
   -- c is the cost of a climb to x and of the link from there to its father y
   abbrev pub FromChild : ℕ → ℕ → Cost → Type 0
   FromChild x y c = (father root x ≡ Some y) × (y ≢ root) × ((b w : Cost) × Climb N father root v x b × (N.link x y ≡ Some w) × (c ≡ N.rule.join b w))
 
   -- each cost is the least of the starts there and of the climbs from the children that are done
-  pub record Climbing (done : ℕ → Bool) (up_to_lem : ℕ → Option Cost) : Type 0 where
-    pub each : (y : ℕ) → IsLeast N.rule (λ c. Start N father root v y c ⊎ ((x : ℕ) × (done x ≡ true) × FromChild x y c)) (up_to_lem y)
+  pub record Climbing (done : ℕ → Bool) (up_to : ℕ → Option Cost) : Type 0 where
+    pub each : (y : ℕ) → IsLeast N.rule (λ c. Start N father root v y c ⊎ ((x : ℕ) × (done x ≡ true) × FromChild x y c)) (up_to y)
 
   -- the costs with the climb from x to its father taken, where that is lower
   abbrev pub climbed_by : (ℕ → Option Cost) → ℕ → ℕ → Option Cost
-  climbed_by up_to_lem x y =
-      lesser N.rule (up_to_lem y) (cond (is_number (father root x) y && avoids root y) (joined N.rule (up_to_lem x) (N.link x y)) None)
+  climbed_by up_to x y =
+      lesser N.rule (up_to y) (cond (is_number (father root x) y && avoids root y) (joined N.rule (up_to x) (N.link x y)) None)

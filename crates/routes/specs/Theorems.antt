@@ -63,19 +63,19 @@ pub record Passes {Cost : Type 0} (N : Network Cost) (father : Fathers) (root v 
   pub climbing : (y : ℕ) → climbed N father root v y ≡ lifted N father root v (climbed N father root v) y
   pub descending : (y : ℕ) → rest N father root v y ≡ lowered N father root v (climbed N father root v) (rest N father root v) y
   -- whatever solves both equations is the rest costs
-  pub only : (up_to_lem down_to : ℕ → Option Cost) →
-      ((y : ℕ) → y < N.count → up_to_lem y ≡ lifted N father root v up_to_lem y) →
-      ((y : ℕ) → y < N.count → down_to y ≡ lowered N father root v up_to_lem down_to y) →
+  pub only : (up_to down_to : ℕ → Option Cost) →
+      ((y : ℕ) → y < N.count → up_to y ≡ lifted N father root v up_to y) →
+      ((y : ℕ) → y < N.count → down_to y ≡ lowered N father root v up_to down_to y) →
       (y : ℕ) → y < N.count → down_to y ≡ rest N father root v y
 
 -- Climbing router by router, each after its children.
 pub record Climbs {Cost : Type 0} (N : Network Cost) (father : Fathers) (root v : ℕ) : Type 0 where
   pub begins : Climbing N father root v (λ x. false) (started N father root v)
-  pub goes_on : (done : ℕ → Bool) (up_to_lem : ℕ → Option Cost) (x : ℕ) → Climbing N father root v done up_to_lem →
-      ((z : ℕ) → father root z ≡ Some x → done z ≡ true) → Climbing N father root v (also done x) (climbed_by N father root v up_to_lem x)
+  pub goes_on : (done : ℕ → Bool) (up_to : ℕ → Option Cost) (x : ℕ) → Climbing N father root v done up_to →
+      ((z : ℕ) → father root z ≡ Some x → done z ≡ true) → Climbing N father root v (also done x) (climbed_by N father root v up_to x)
   -- where all are done, the costs are those of the best climbs
-  pub ends : (done : ℕ → Bool) (up_to_lem : ℕ → Option Cost) → Climbing N father root v done up_to_lem → ((x : ℕ) → x < N.count → done x ≡ true) →
-      (y : ℕ) → up_to_lem y ≡ climbed N father root v y
+  pub ends : (done : ℕ → Bool) (up_to : ℕ → Option Cost) → Climbing N father root v done up_to → ((x : ℕ) → x < N.count → done x ≡ true) →
+      (y : ℕ) → up_to y ≡ climbed N father root v y
 
 module _ (Cost : Type 0) where
   -- The network of a kept map of at most 32 routers is sound.
