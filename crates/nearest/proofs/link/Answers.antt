@@ -3,8 +3,8 @@ use Rattle.std.proofs.lemmas.Nat.{mul-add-lt}
 use Rattle.std.proofs.lemmas.Bool.{and_from, cond-true, lt-ltb, ne_eqb, not_from_false}
 use Rattle.nearest.proofs.link.Goals as goal
 
-pub offset-bounds-links-from : goal.offset-bounds-links-from
-offset-bounds-links-from g c = omega (arith, mul-add-lt c.args.from c.args.count c.args.to c.args.count (omega arith) (omega arith), c.requires.square.full)
+pub offset_bounds-links-from : goal.offset_bounds-links-from
+offset_bounds-links-from g c = omega (arith, mul-add-lt c.args.from c.args.count c.args.to c.args.count (omega arith) (omega arith), c.requires.square.full)
 
 pub bounds-links-from : goal.bounds-links-from
 bounds-links-from g c = omega (arith, mul-add-lt c.args.from c.args.count c.args.to c.args.count (omega arith) (omega arith), c.requires.square.full)

@@ -10,15 +10,15 @@ use Rattle.page_settling.proofs.hop_sets.Goals as goal
 pub loop-v-init : goal.loop-v-init
 loop-v-init g c = entered_first (matrix g.C.Cost.costs c.args.count c.args.links.now) c.args.root c.args.rest.now
 
-pub offset-bounds-rest-v : goal.offset-bounds-rest-v
-offset-bounds-rest-v g c =
+pub offset_bounds-rest-v : goal.offset_bounds-rest-v
+offset_bounds-rest-v g c =
     let v = c.loop-v.v in
     let n = c.args.count in
     let inside : v * n < length c.args.rest.now = omega (arith, mul-add-lt v n 0 n c.loop-v-test.true (omega arith), c.requires.inside.1) in
     search rules
 
-pub slice-bounds-row-end : goal.slice-bounds-row-end
-slice-bounds-row-end g c =
+pub slice_bounds-row-end : goal.slice_bounds-row-end
+slice_bounds-row-end g c =
     let v = c.loop-v.v in
     let n = c.args.count in
     omega (arith, row_fits v n c.loop-v-test.true, c.requires.inside.1, c.loop-v.auto.rest)

@@ -9,8 +9,8 @@ use Rattle.page_settling.proofs.narrowed.Goals.{in-Some, in_default}
 pub loop-d-init : goal.loop-d-init
 loop-d-init c = filled_first _ _ _
 
-pub overflow-cast-bytes : goal.overflow-cast-bytes
-overflow-cast-bytes c = record { fits = c.requires c.loop-d.d c.in-Some.x c.in-Some.is }
+pub overflow_cast-bytes : goal.overflow_cast-bytes
+overflow_cast-bytes c = record { fits = c.requires c.loop-d.d c.in-Some.x c.in-Some.is }
 
 pub loop-d-preserved : goal.loop-d-preserved
 loop-d-preserved c =

@@ -28,5 +28,5 @@ returns-in-Some t c =
     (path_on c.args.self.now.father c.args.router c.args.left c.in-Some.x some (sym c.in-Some.ensures)) in
     record { many = w.many-is; memory = w.memory_is }
 
-pub offset-bounds-out-at : goal.offset-bounds-out-at
-offset-bounds-out-at t c = omega (arith, c.write_path-at.ensures.many, path_length c.args.self.now.father (c.args.left - 1) c.in-Some.x)
+pub offset_bounds-out-at : goal.offset_bounds-out-at
+offset_bounds-out-at t c = omega (arith, c.write_path-at.ensures.many, path_length c.args.self.now.father (c.args.left - 1) c.in-Some.x)

@@ -30,8 +30,8 @@ pub loop-v-init : goal.loop-v-init
 unfolding members
 loop-v-init c = add-zero _
 
-pub overflow-cast-many : goal.overflow-cast-many
-overflow-cast-many c = omega (arith, ones-le 32 c.valid_to-set.result c.valid_to-set.type-inv)
+pub overflow_cast-many : goal.overflow_cast-many
+overflow_cast-many c = omega (arith, ones-le 32 c.valid_to-set.result c.valid_to-set.type-inv)
 
 pub loop-v-preserved : goal.loop-v-preserved
 loop-v-preserved c =
