@@ -1,3 +1,4 @@
+pub mod Gathered
 pub mod Fills
 pub mod SetSteps
 pub mod Rests

@@ -16,7 +16,7 @@ use Rattle.routes.specs.Lists.{gather, when_some}
 use Rattle.routes.specs.Network.{Network, Sound}
 use Rattle.routes.specs.Transverse.{rest, valid}
 use Rattle.routes.specs.Tree.{lowest_father}
-use Rattle.routes.proofs.Members.{gather-more}
+use Rattle.page_settling.proofs.Gathered.{gather_more}
 use Rattle.nearest.specs.Found.{Searched}
 use Rattle.nearest.specs.Steps.{costs_in}
 use Rattle.nearest.specs.declared.found.Found.{Found}
@@ -99,7 +99,7 @@ module _ {C : Type 0} (N : Network C) (sound : Sound N) (root : ℕ) {memory : L
         record {
           candidates = ec ∙ sets_more N.count reached v (λ x d. is_some (rest N (lowest_father N) root x d)) sound.few small candidate_here (candidate_past N sound root v) cs h.candidates;
           valid = ev ∙ sets_more N.count near v (valid N (lowest_father N) root) sound.few small valid_here (valid_past N sound root v) vs h.valid;
-          rows = subst (Holds old next 0 ((v + 1) * N.count)) (sym (gather-more v (rest_row N root)))
+          rows = subst (Holds old next 0 ((v + 1) * N.count)) (sym (gather_more v (rest_row N root)))
               (holds_more old now next 0 (v * N.count) ((v + 1) * N.count) (gather v (rest_row N root)) (rest_row N root v) h.rows
               (omega (arith, room, row_fits v N.count l)) (omega arith)
               (part_laid (v * N.count) ((v + 1) * N.count - v * N.count) now row (ap length is ∙ omega arith) ∙ ap (laid now (v * N.count)) is));

@@ -31,7 +31,7 @@ unfolding members
 loop-v-init c = add-zero _
 
 pub overflow_cast-many : goal.overflow_cast-many
-overflow_cast-many c = omega (arith, ones-le 32 c.valid_to-set.result c.valid_to-set.type-inv)
+overflow_cast-many c = omega (arith, ones-le 32 c.valid_to-set.result c.valid_to-set.type_inv)
 
 pub loop-v-preserved : goal.loop-v-preserved
 loop-v-preserved c =
@@ -54,7 +54,7 @@ loop-i-preserved c =
     let here = c.loop-i.here in
     let i = c.loop-i.i in
     let same_set = set_is (goal.at.loop-i-preserved c).After-valid_to-set in
-    let many_is : ones c.valid_to-set.result ≡ length (members c.valid_to-set.result 32) = sym (length_members c.valid_to-set.result 32 c.valid_to-set.type-inv) in
+    let many_is : ones c.valid_to-set.result ≡ length (members c.valid_to-set.result 32) = sym (length_members c.valid_to-set.result 32 c.valid_to-set.type_inv) in
     let some : 0 < ones c.valid_to-set.result = omega (arith, c.if-many-eq0.false) in
     let pick = get_or c.args.picks.now i 0 in
     let rank = pick % ones c.valid_to-set.result in
@@ -101,7 +101,7 @@ returns-then-many-eq0 c =
     let picks = take (c.args.count - 1) c.args.picks.now in
     let same_set = set_is (goal.at.returns-then-many-eq0 c).After-valid_to-set in
     let none : length (members (sets c.loop-i.here) 32) ≡ 0 =
-    ap (λ n. length (members n 32)) (sym same_set) ∙ length_members c.valid_to-set.result 32 c.valid_to-set.type-inv ∙ c.if-many-eq0.true in
+    ap (λ n. length (members n 32)) (sym same_set) ∙ length_members c.valid_to-set.result 32 c.valid_to-set.type_inv ∙ c.if-many-eq0.true in
     let end = walk_stuck sets c.args.to (drop c.loop-i.i picks) c.loop-i.here none in
     let a = walk_ends sets c.args.to c.args.from picks c.args.trail.now c.walk.trail c.loop-i.trail c.loop-i.here c.loop-i.i c.loop-i.invariant.0 c.walk.invariant.1 end in
     record { hops = a.0; within = c.loop-i.invariant.2; memory = a.1 }
