@@ -70,4 +70,4 @@ returns-in_err-next_direction c =
 pub returns : goal.returns
 returns c =
     let inv = c.loop-many.invariant in
-    ended_well c.loop-many.many (stands c.loop-many.reader) (stands c.args.reader.now) inv.0 inv.1 (ap Ok (sym c.in-default.is) ∙ c.in_ok-next_direction.ensures.answer)
+    ended_well c.loop-many.many (stands c.loop-many.reader) (stands c.args.reader.now) inv.0 inv.1 (ap Ok (sym c.in_default.is) ∙ c.in_ok-next_direction.ensures.answer)

@@ -40,7 +40,7 @@ pub overflow_add-self-2 : goal.overflow_add-self-2
 overflow_add-self-2 c = omega (arith, ends_inside c)
 
 pub invariant_of-self : goal.invariant_of-self
-invariant_of-self c = (omega (arith, ends_inside c), (omega (arith, c.args.self.now.lines), tt))
+invariant_of-self c = record { inside = omega (arith, ends_inside c); lines = omega (arith, c.args.self.now.lines) }
 
 pub returns : goal.returns
 returns c =
