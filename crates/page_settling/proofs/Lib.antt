@@ -1,4 +1,3 @@
-pub mod Gathered
 pub mod Fills
 pub mod SetSteps
 pub mod Rests

@@ -28,7 +28,7 @@ use Rattle.passes.proofs.Orders.{at_table, at_hops}
 use Rattle.passes.proofs.Rows.{father_inside}
 use Rattle.page_settling.specs.Hops.{cost_held, sets_below}
 use Rattle.page_settling.specs.Settled.{page_kept, Answers}
-use Rattle.page_settling.proofs.Gathered.{same_mask}
+use Rattle.routes.proofs.Gathered.{same_mask}
 use Rattle.masks.proofs.MaskLaws.{mask_none, mask_besides}
 
 -- What a row holds for a router of the mask, and for another.

@@ -16,7 +16,7 @@ use Rattle.routes.specs.Lists.{gather, when_some}
 use Rattle.routes.specs.Network.{Network, Sound}
 use Rattle.routes.specs.Transverse.{rest, valid}
 use Rattle.routes.specs.Tree.{lowest_father}
-use Rattle.page_settling.proofs.Gathered.{gather_more}
+use Rattle.routes.proofs.Gathered.{gather_more}
 use Rattle.nearest.specs.Found.{Searched}
 use Rattle.nearest.specs.Steps.{costs_in}
 use Rattle.nearest.specs.declared.found.Found.{Found}

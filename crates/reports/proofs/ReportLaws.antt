@@ -5,7 +5,7 @@ use Rattle.std.proofs.lemmas.Bool.{cond-true, cond-false, eq-eqb, ne_eqb}
 use Rattle.decimals.proofs.NumberLaws.{two_digits}
 use Rattle.memory.proofs.WriteLaws.{Holds, holds_none, holds_more}
 use Rattle.routes.specs.Lists.{gather}
-use Rattle.routes.proofs.Members.{gather-more}
+use Rattle.routes.proofs.Gathered.{gather_more}
 use Rattle.pagetable.specs.declared.page.Page.{Page}
 use Rattle.reports.specs.Reports.{line, entry_text, report_text}
 use Rattle.reports.proofs.LineLaws.{length_line}
@@ -38,7 +38,7 @@ module _ (old : List ℕ) (at root : ℕ) (page : Page) where
   pub grown_root : (out : List ℕ) (place d : ℕ) → Grown old out at place root page d → d ≡ root → Grown old out at place root page (d + 1)
   grown_root out place d g e =
       let none : towards root page d ≡ [] = cond-true _ _ _ (eq-eqb d root e) in
-      let same : gather d (towards root page) ≡ gather (d + 1) (towards root page) = sym (gather-more d (towards root page) ∙ ap (λ t. gather d (towards root page) ++ t) none ∙ append-nil _) in
+      let same : gather d (towards root page) ≡ gather (d + 1) (towards root page) = sym (gather_more d (towards root page) ∙ ap (λ t. gather d (towards root page) ++ t) none ∙ append-nil _) in
       record {
         stands = subst (Holds old out at place) same g.stands;
         bound = omega (arith, g.bound, ap length same);
@@ -48,7 +48,7 @@ module _ (old : List ℕ) (at root : ℕ) (page : Page) where
   pub grown_entry : (out next : List ℕ) (place then d : ℕ) → Grown old out at place root page d → (d ≡ root → ⊥) → place ≤ length old → Holds out next place then (entry_text page d) → length (entry_text page d) ≤ 125 → Grown old next at then root page (d + 1)
   grown_entry out next place then d g ne room h small =
       let entry : towards root page d ≡ entry_text page d = cond-false _ _ _ (ne_eqb d root ne) in
-      let more : gather d (towards root page) ++ entry_text page d ≡ gather (d + 1) (towards root page) = sym (gather-more d (towards root page) ∙ ap (λ t. gather d (towards root page) ++ t) entry) in
+      let more : gather d (towards root page) ++ entry_text page d ≡ gather (d + 1) (towards root page) = sym (gather_more d (towards root page) ∙ ap (λ t. gather d (towards root page) ++ t) entry) in
       record {
         stands = subst (Holds old next at then) more (holds_more old out next at place then _ (entry_text page d) g.stands room h.ends h.holds);
         bound = omega (arith, g.bound, small, ap length more, length-append (gather d (towards root page)) (entry_text page d));

@@ -3,6 +3,7 @@ pub mod Members
 pub mod Sizes
 pub mod Ranks
 pub mod Masks
+pub mod Gathered
 pub mod Standing
 pub mod Routes
 pub mod Fathers
