@@ -191,7 +191,7 @@ module _ {Cost : Type 0} (N : Network Cost) (sound : Sound N) (father : Fathers)
   unfolding fall
   falls_fall {x = x} h f = fall_complete f N.count (depth_below N sound root x h)
 
-  path_stable : (k k' d : ℕ) → dep d ≤ k → dep d ≤ k' → path_in N father root k d ≡ path_in N father root k' d
+  pub path_stable : (k k' d : ℕ) → dep d ≤ k → dep d ≤ k' → path_in N father root k d ≡ path_in N father root k' d
   unfolding path_in
   path_stable zero zero d h h' = refl
   path_stable zero (suc k') d h h' = ap (λ o. when_some o (d ∷ []) (λ x. path_in N father root k' x ++ d ∷ [])) (sym (top_fatherless d h))

@@ -15,7 +15,7 @@ use Rattle.routes.proofs.Branches.{branched}
 use Rattle.routes.proofs.Transverses.{hop_below}
 use Rattle.routes.proofs.Valid.{near, valid_near, valid_nearer, tree_valid}
 
-getD_in : (xs : List ℕ) (i : ℕ) → i < length xs → Memᴰ (get_or xs i 0) xs
+pub getD_in : (xs : List ℕ) (i : ℕ) → i < length xs → Memᴰ (get_or xs i 0) xs
 getD_in [] i h = absurd (omega arith)
 getD_in (x ∷ xs) zero h = Memᴰ.head refl
 getD_in (x ∷ xs) (suc i) h = Memᴰ.tail (getD_in xs i (omega arith))
