@@ -17,7 +17,7 @@ fn reports_two_routers<T: LinkTable>(rt: &impl Abort, area: &mut Area<u32, T>) {
     settle(rt, area, 0);
     let mut out = [b'~'; 4096];
     assert_eq!(rt; area.report(0, &mut out), Ok(34));
-    assert!(rt; &out[0..34] == b"root=0\nto=1\ntree=1\nvalid=1\nother=\n");
+    assert!(rt; &out[0..34] == b"root=0\nto=1\ntree=1\nvalid=1\nother=\n".as_slice());
     for byte in &out[34..4096] {
         assert_eq!(rt; *byte, b'~');
     }

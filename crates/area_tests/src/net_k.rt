@@ -15,11 +15,11 @@ fn has_costs<T: LinkTable>(rt: &impl Abort, area: &mut Area<u32, T>) {
     let mut waiting = [Entry { cost: 0, router: 0 }; 25];
     assert_eq!(rt; area.settle(0, &mut best, &mut rest, &mut waiting), Ok(()));
     assert_eq!(rt; best, [0, 1, 3, 3, 4, 9, 9]);
-    assert!(rt; &rest[0..5] == &[0; 5]);
-    assert!(rt; &rest[5..10] == &[0, 0, 3, 2, 3]);
-    assert!(rt; &rest[10..15] == &[0, 3, 0, 1, 2]);
-    assert!(rt; &rest[15..25] == &[0; 10]);
-    assert!(rt; &rest[25..28] == &[9; 3]);
+    assert!(rt; &rest[0..5] == [0; 5].as_slice());
+    assert!(rt; &rest[5..10] == [0, 0, 3, 2, 3].as_slice());
+    assert!(rt; &rest[10..15] == [0, 3, 0, 1, 2].as_slice());
+    assert!(rt; &rest[15..25] == [0; 10].as_slice());
+    assert!(rt; &rest[25..28] == [9; 3].as_slice());
 }
 
 fn has_hops<T: LinkTable>(rt: &impl Abort, area: &Area<u32, T>) {
