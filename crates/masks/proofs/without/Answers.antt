@@ -1,4 +1,4 @@
-use Rattle.std.proofs.Common.{◌-◌, lt_of_le_of_lt, arith}
+use Rattle.std.proofs.Common.{◌-◌, arith}
 use lib.Bits.{bit_and}
 use Rattle.std.proofs.lemmas.Nat.{and_le_l}
 use Rattle.masks.proofs.MaskLaws.{same_set, holds_without}
