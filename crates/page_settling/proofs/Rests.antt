@@ -116,7 +116,7 @@ module _ {C : Type 0} (N : Network C) (sound : Sound N) (root : ℕ) where
       let w = ap (λ sets. get_or sets d 0) (sym valid_kept) ∙ at_sets (λ v d. valid N F root v d) valid_past d in
       let v = w ∙ sym (same_mask N.count (λ v. valid N F root v d)) in
       let o = ap₂ besides c w ∙ mask_besides N.count (λ v. is_some (rest N F root v d)) (λ v. valid N F root v d) sound.few
-          ∙ sym (same_mask N.count (λ v. is_some (rest N F root v d) && not (valid N F root v d))) in
+      ∙ sym (same_mask N.count (λ v. is_some (rest N F root v d) && not (valid N F root v d))) in
       λ i. (at_hops N sound root d i, v i, o i)
 
   -- fathers and tree hops are routers of the network

@@ -1,5 +1,5 @@
 -- The pages of an area, as they are kept, and what they answer.
-use Rattle.std.specs.Prelude.{ℕ, zero, suc, Bool, true, false, List, [], ◌∷◌, ◌++◌, set, replicate, None, Option, slice_index, slice_index_or, slice_set}
+use Rattle.std.specs.Prelude.{ℕ, zero, suc, Bool, true, false, List, [], ◌∷◌, ◌++◌, replicate, None, Option, slice_index, slice_index_or, slice_set}
 use Rattle.masks.specs.Sets.{besides}
 use Rattle.routes.specs.Lists.{when_some}
 use Rattle.pagetable.specs.declared.page.Page.{Page}

@@ -1,12 +1,12 @@
 -- On every opened area, each current page is the page of the links standing.
-use Rattle.std.proofs.Common.{◌≡◌, ℕ, zero, suc, ◌*◌, ◌<◌, ◌≤◌, Bool, true, false, cond, ltb, leb, ◌≢◌, ◌⊎◌, List, length, get_or, replicate, Some, None, Option, Result, sym, refl, ap, ◌∙◌, subst, ⊎_elim, arith, length-set}
+use Rattle.std.proofs.Common.{◌≡◌, ℕ, zero, suc, ◌*◌, ◌<◌, ◌≤◌, Bool, true, false, cond, ltb, leb, List, length, get_or, replicate, Some, None, Option, Result, sym, refl, ap, ◌∙◌, subst, ⊎_elim, arith, length-set}
 use Rattle.std.proofs.lemmas.List.{get_or-set_same, get_or-set_other}
 use Rattle.std.proofs.lemmas.Bool.{cases_eq, ltb-true, true≢false}
 use Rattle.area.specs.Areas.{Area, opened, Changes, Settles, settle_fault}
 use Rattle.area.specs.Networks.{standing_on}
 use Rattle.costs.specs.Costs.{Costs}
 use Rattle.entries.specs.declared.Entry.{Entry}
-use Rattle.faults.specs.Calls.{or_else, granted, in_area}
+use Rattle.faults.specs.Calls.{or_else, in_area}
 use Rattle.faults.specs.declared.fault.Fault.{Fault}
 use Rattle.faults.specs.declared.refusal.Refusal.TheVariants.{NoSuchRouter, MemoryTooShort}
 use Rattle.pagetable.specs.Pages.{all_stale, entered, is_current, page_of, no_page}

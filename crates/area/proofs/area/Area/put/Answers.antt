@@ -1,7 +1,6 @@
-use Rattle.std.proofs.Common.{sym, refl, ap, ◌∙◌, arith, rules}
+use Rattle.std.proofs.Common.{ap, arith, rules}
 use Rattle.std.proofs.lemmas.Result.{err_from_is_err_and}
 use Rattle.tables.specs.Meaning.{means}
-use Rattle.area.specs.declared.area.Area.{Area}
 use Rattle.area.proofs.Puts.{is_pair_granted, put_refused}
 use Rattle.area.proofs.area.Area.put.Goals as goal
 

@@ -1,4 +1,4 @@
-use Rattle.std.proofs.Common.{◌≡◌, ◌-◌, ◌<◌, length, sym, ◌∙◌, arith, rules}
+use Rattle.std.proofs.Common.{◌-◌, ◌<◌, length, sym, arith}
 use Rattle.pagetable.specs.Pages.{path_by}
 use Rattle.pagetable.proofs.PathLaws.{path_first, path_top, path_on, path_length, wrote_one, wrote_more}
 use Rattle.pagetable.proofs.page.Page.+write_path.Goals as goal
