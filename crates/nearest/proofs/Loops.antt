@@ -6,7 +6,7 @@ use Rattle.std.proofs.lemmas.List.FromFn.{fill_by_all}
 use Rattle.std.proofs.ByRecursion.{all-has, all_shuffled, has_shuffled}
 use Rattle.std.proofs.lemmas.List.{length-set, length-take-le, get_or-take, take-append-drop}
 use Rattle.std.proofs.lemmas.Bool.{both_ways, cases_Bool, cases_lt, or_parts, and_left, cond-true, cond-false, eqb-false, lt-ltb, le-ltb}
-use Rattle.std.specs.List.{ContainsAt as Has, AllByRecursion as All}
+use Rattle.std.specs.List.{ContainsAt, AllByRecursion}
 use Rattle.costs.specs.Costs.{Costs, Laws}
 use Rattle.entries.specs.Entry.{entry_before}
 use Rattle.entries.specs.declared.Entry.{Entry}
@@ -44,10 +44,10 @@ pub record Running {C : Type 0} (rule : Costs C) (links : List ℕ) (count root 
   pub line : InLine (matrix rule count links) (holds marks.done) (costs_in rule best known) marks.order marks.many
 
 -- an element besides the first
-has_rest : {X : Type 0} (e : X) (xs : List X) (y : X) → (e ≡ y → ⊥) → Has (e ∷ xs) y → Has xs y
+has_rest : {X : Type 0} (e : X) (xs : List X) (y : X) → (e ≡ y → ⊥) → ContainsAt (e ∷ xs) y → ContainsAt xs y
 has_rest {X} e xs y ne h = place h.0 h.1 h.2
   where
-    place : (k : ℕ) → k < length (e ∷ xs) → ((d : X) → get_or (e ∷ xs) k d ≡ y) → Has xs y
+    place : (k : ℕ) → k < length (e ∷ xs) → ((d : X) → get_or (e ∷ xs) k d ≡ y) → ContainsAt xs y
     place zero lt at = absurd (ne (at e))
     place (suc k) lt at = (k, omega arith, at)
 
@@ -88,7 +88,7 @@ module _ {C : Type 0} {rule : Costs C} {links : List ℕ} {count root : ℕ} (la
         record {
           ordered = ordered;
           each = λ d b _ e. absurd (none_some b (sym (nothing d) ∙ e));
-          within = subst (λ k. All (AboveKnown rule (costs_in rule best 0)) (take k (memory w))) (sym clear) tt;
+          within = subst (λ k. AllByRecursion (AboveKnown rule (costs_in rule best 0)) (take k (memory w))) (sym clear) tt;
         }
 
     pub running_first : Running rule links count root best' known' marks w'
@@ -124,12 +124,12 @@ module _ {C : Type 0} {rule : Costs C} {links : List ℕ} {count root : ℕ} (la
       pub router_inside : e.router < count
       router_inside = known_inside N sound root inside done f run.settling e.router head.0 head.1
 
-      others : (d : ℕ) (b : C) → (d ≡ e.router → ⊥) → done d ≡ false → f d ≡ Some b → Has (queued v) (entry b d)
+      others : (d : ℕ) (b : C) → (d ≡ e.router → ⊥) → done d ≡ false → f d ≡ Some b → ContainsAt (queued v) (entry b d)
       others d b ne nd is =
           has_rest e (queued v) (entry b d) (λ same. ne (sym (ap (λ (x : Entry C). x.router) same)))
           (has_shuffled (queued w) (e ∷ queued v) (entry b d) out.items (run.waits.each d b nd is))
 
-      rest_within : All (AboveKnown rule f) (queued v)
+      rest_within : AllByRecursion (AboveKnown rule f) (queued v)
       rest_within = (all_shuffled (AboveKnown rule f) (queued w) (e ∷ queued v) out.items run.waits.within).1
 
       -- its router is done already
@@ -208,7 +208,7 @@ module _ {C : Type 0} {rule : Costs C} {links : List ℕ} {count root : ℕ} (la
       all_done : (x : ℕ) (c : C) → f x ≡ Some c → done x ≡ true
       all_done x c e =
           ⊎_elim (λ t. t)
-          (λ nd. let h = subst (λ k. Has (take k (memory w)) (entry c x)) empty (run.waits.each x c nd e) in absurd (omega (arith, h.1)))
+          (λ nd. let h = subst (λ k. ContainsAt (take k (memory w)) (entry c x)) empty (run.waits.each x c nd e) in absurd (omega (arith, h.1)))
           (cases_Bool (done x))
 
       found : (d : ℕ) → d < count → f d ≡ best_cost N root d

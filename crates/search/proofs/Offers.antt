@@ -3,7 +3,7 @@ use Rattle.std.proofs.Common.{◌≡◌, ℕ, ◌+◌, ◌<◌, Bool, true, fals
 use Rattle.std.proofs.ByRecursion.{All-push, All-weaker, has_append_left, has_push, all_shuffled, has_shuffled}
 use Rattle.std.proofs.lemmas.List.{get_or-set_same, get_or-set_other, drop-set-lt}
 use Rattle.std.proofs.lemmas.Bool.{cases_eq, cond-true, cond-false, eq-eqb, ne_eqb, eqb-false, or_parts}
-use Rattle.std.specs.List.{ContainsAt as Has}
+use Rattle.std.specs.List.{ContainsAt}
 use Rattle.faults.specs.declared.refusal.Refusal.{Refusal}
 use Rattle.costs.specs.Costs.{Costs, Laws}
 use Rattle.entries.specs.Entry.{entry_before}
@@ -111,7 +111,7 @@ module _ {C : Type 0} (rule : Costs C) where
                 record {
                   ordered = p.ordered q.ordered;
                   each = λ d b nd e. has_shuffled (queued w ++ entry c to ∷ []) (queued w') (entry b d) p.items (⊎_elim
-                      (λ (s : d ≡ to). subst (Has (queued w ++ entry c to ∷ [])) (same_entry c b to d (some_inj c b (sym (here d s) ∙ e)) (sym s)) (has_push (queued w) (entry c to)))
+                      (λ (s : d ≡ to). subst (ContainsAt (queued w ++ entry c to ∷ [])) (same_entry c b to d (some_inj c b (sym (here d s) ∙ e)) (sym s)) (has_push (queued w) (entry c to)))
                       (λ ne. has_append_left (queued w) (entry c to ∷ []) (entry b d) (q.each d b nd (sym (there d ne) ∙ e)))
                       (cases_eq d to));
                   within = all_shuffled (AboveKnown rule g) (queued w ++ entry c to ∷ []) (queued w') p.items

@@ -1,6 +1,6 @@
 -- The steps of a search: a cost offered to a router, the links of a router relaxed, a router marked as done.
 use Rattle.std.specs.Prelude.{◌≡◌, ℕ, ◌+◌, ◌≤◌, Bool, false, cond, List, length, drop, Some, None, Option, ◌==◌, slice_index_or, slice_set}
-use Rattle.std.specs.List.{ContainsAt as Has, AllByRecursion as All}
+use Rattle.std.specs.List.{ContainsAt, AllByRecursion}
 use Rattle.costs.specs.Costs.{Costs, Joinable, Joins}
 use Rattle.entries.specs.Entry.{entry_before}
 use Rattle.entries.specs.declared.Entry.{Entry}
@@ -39,8 +39,8 @@ AboveKnown {C} rule f e = (a : C) × (f e.router ≡ Some a) × (rule.lower e.co
 -- its known cost, and no entry is below the known cost of its router.
 pub record Waits {C : Type 0} (rule : Costs C) (done : ℕ → Bool) (f : ℕ → Option C) (w : Waiting (Entry C)) : Type 0 where
   pub ordered : InOrder (entry_before rule.lower) w
-  pub each : (d : ℕ) (b : C) → done d ≡ false → f d ≡ Some b → Has (queued w) (entry b d)
-  pub within : All (AboveKnown rule f) (queued w)
+  pub each : (d : ℕ) (b : C) → done d ≡ false → f d ≡ Some b → ContainsAt (queued w) (entry b d)
+  pub within : AllByRecursion (AboveKnown rule f) (queued w)
 
 -- A step after which the known costs are f': it writes places below n, and adds at most m entries to the waiting list, which stays
 -- that of the search. A router that is still unknown has what the memory held.

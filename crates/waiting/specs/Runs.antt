@@ -2,7 +2,7 @@
 use Rattle.std.specs.Prelude.{◌≡◌, ℕ, ◌<◌, ◌≤◌, Bool, false, List, [], ◌∷◌, ◌++◌, length, take, drop, Some, None, Ok, Err, Option, Result}
 use Rattle.faults.specs.declared.refusal.Refusal.{Refusal}
 use Rattle.faults.specs.declared.refusal.Refusal.TheVariants.{MemoryTooShort}
-use Rattle.std.specs.List.{AllByRecursion as All}
+use Rattle.std.specs.List.{AllByRecursion}
 use Rattle.std.specs.List.Sorted.{IsPermutation}
 use Rattle.waiting.specs.Waiting.{memory, queued, PushAnswer, PopAnswer}
 use Rattle.waiting.specs.declared.calls.Answer.{Answer}
@@ -61,7 +61,7 @@ ServesOne before capacity bag (Push e) (Lowest x) bag' = ⊥
 ServesOne before capacity bag (Push e) Nothing bag' = ⊥
 ServesOne before capacity bag Pop Taken bag' = ⊥
 ServesOne before capacity bag Pop Refused bag' = ⊥
-ServesOne before capacity bag Pop (Lowest e) bag' = IsPermutation bag (e ∷ bag') × All (λ x. before x e ≡ false) bag
+ServesOne before capacity bag Pop (Lowest e) bag' = IsPermutation bag (e ∷ bag') × AllByRecursion (λ x. before x e ≡ false) bag
 ServesOne before capacity bag Pop Nothing bag' = (bag ≡ []) × (bag' ≡ bag)
 
 -- a list of calls, each on the bag that the call before it left

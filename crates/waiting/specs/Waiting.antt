@@ -3,7 +3,7 @@ use Rattle.std.specs.Prelude.{◌≡◌, ◌+◌, ◌<◌, Bool, false, List, []
 use Rattle.std.specs.Borrow.{GName}
 use Rattle.faults.specs.declared.refusal.Refusal.{Refusal}
 use Rattle.faults.specs.declared.refusal.Refusal.TheVariants.{Full}
-use Rattle.std.specs.List.{AllByRecursion as All}
+use Rattle.std.specs.List.{AllByRecursion}
 use Rattle.std.specs.List.Sorted.{IsPermutation}
 use Rattle.waiting.specs.Heap.{Heaped}
 use Rattle.waiting.specs.declared.list.Waiting.{Waiting}
@@ -55,7 +55,7 @@ pub record Popped {E : Type 0} (before : E → E → Bool) (e : E) (w w' : Waiti
   pub items : IsPermutation (queued w) (e ∷ queued w')
   pub rest : drop w.len (memory w') ≡ drop w.len (memory w)
   pub ordered : InOrder before w → InOrder before w'
-  pub least : InOrder before w → All (λ x. before x e ≡ false) (queued w)
+  pub least : InOrder before w → AllByRecursion (λ x. before x e ≡ false) (queued w)
 
 -- none waits, and nothing changed
 pub record Empty {E : Type 0} (w w' : Waiting E) : Type 0 where
