@@ -1,5 +1,4 @@
 pub mod Numbers
-pub mod Puts
 pub mod Settles
 pub mod Loading
 pub mod Files

@@ -1,20 +1,19 @@
 -- Directions put one after another, as a load does it.
 use Rattle.std.proofs.Common.{◌≡◌, ℕ, Bool, true, false, cond, ◌||◌, List, [], ◌∷◌, Some, None, Ok, Err, Option, Result, sym, refl, ap, ◌∙◌, subst, arith}
 use Rattle.costs.specs.Costs.{Costs}
-use Rattle.directions.specs.Directions.{and_then, next_number, next_value, direction_read}
+use Rattle.directions.specs.Directions.{direction_read}
 use Rattle.directions.specs.Files.{list_all}
 use Rattle.directions.proofs.FileLaws.{list_all_some, list_all_none, list_all_err}
 use Rattle.directions.specs.declared.direction.Direction.{Direction}
 use Rattle.faults.specs.Calls.{done, granted}
 use Rattle.faults.specs.declared.fault.Fault.{Fault}
-use Rattle.linkfile.specs.Lines.{routers, rule}
-use Rattle.linkfile.specs.Reading.{Standing, start, onward}
+use Rattle.linkfile.specs.Reading.{Standing}
 use Rattle.pagetable.specs.Pages.{all_stale}
 use Rattle.pagetable.specs.declared.table.PageTable.{PageTable}
 use Rattle.tables.specs.Links.{with_link}
 use Rattle.tables.specs.Tables.{Table, Changed}
 use Rattle.area.specs.Areas.{Area, Put, put_fault}
-use Rattle.area.specs.Loads.{Loaded, Loads, keeping, put_then, put_all, put_listed, fault_on, on_line, count_judged, name_judged, behind_head, loaded}
+use Rattle.area.specs.Loads.{Loaded, Loads, keeping, put_then, put_all, put_listed, fault_on}
 
 -- two tables that judge a put alike
 record Alike (t u : Table) : Type 0 where
@@ -61,10 +60,6 @@ pub record Loading {C : Type 0} (rule : Costs C) (a : Area) (s : Standing) (b : 
   pub limit : b.table.limit ≡ a.table.limit
   pub plain : b.table.plain ≡ a.table.plain
   pub pages : b.pages ≡ cond changed (all_stale a.pages) a.pages
-
-pub loading_begins : {C : Type 0} (rule : Costs C) (a : Area) (s : Standing) → Loading rule a s a s
-loading_begins k a s =
-    record { changed = false; whole = refl; shown = λ _. refl; count = refl; greatest = refl; limit = refl; plain = refl; pages = refl }
 
 module _ {C : Type 0} (rule : Costs C) (a : Area) (s : Standing) (b : Area) (t : Standing) (l : Loading rule a s b t) where
   -- what is left begins with a direction
@@ -160,55 +155,3 @@ module _ {C : Type 0} (rule : Costs C) (a : Area) (s : Standing) (b : Area) (t :
               plain = c.plain ∙ l.plain;
               pages = p ∙ ap all_stale l.pages ∙ stale_once l.changed a.pages;
             }
-
--- the fault of a refused put, on its line
-pub fault_told : (f : Fault) (line : ℕ) (x : Option Fault) → Err f ≡ done x → Err (on_line line f) ≡ done (fault_on line x)
-fault_told f line None e = let z : ◌≡◌ {A = ℕ} 0 1 = cc in absurd (omega arith)
-fault_told f line (Some g) e = ap (λ (r : Result (Unit {0}) Fault). told r) e
-  where
-    told : Result (Unit {0}) Fault → Result (Unit {0}) Fault
-    told (Ok u) = Ok u
-    told (Err h) = Err (on_line line h)
-
--- The lines at the head of a file, by where the reader stands.
-module _ {C : Type 0} (k : Costs C) (title : List ℕ) (a : Area) (text : List ℕ) (s : Standing) (first : s ≡ start text) where
-  abbrev count_said : Standing → Result (Unit {0}) Fault
-  count_said z = and_then (next_number routers z) (count_judged a.table.count z.line)
-
-  abbrev name_said : Standing → Result (Unit {0}) Fault
-  name_said z = and_then (next_value rule z) (name_judged title z.line)
-
-  -- the whole load by the answers of its parts
-  by_head : Result (Unit {0}) Fault → Result (Unit {0}) Fault → Loaded
-  by_head c n = behind_head k a.table (onward (onward (start text))) (and_then c (λ u. n))
-
-  stopped : (f : Fault) → loaded k title a.table text ≡ record { answer = Err f; kept = a.table.kept; changed = false } → Loads (loaded k title a.table text) a (Err f) a
-  stopped f e =
-      record {
-        answer = sym (ap (λ (m : Loaded). m.answer) e);
-        kept = sym (ap (λ (m : Loaded). m.kept) e);
-        shown = λ _. refl;
-        count = refl;
-        greatest = refl;
-        limit = refl;
-        plain = refl;
-        pages = sym (ap (λ (m : Loaded). cond m.changed (all_stale a.pages) a.pages) e);
-      }
-
-  pub stops_at_count : (f : Fault) → Err f ≡ count_said s → Loads (loaded k title a.table text) a (Err f) a
-  unfolding by_head
-  stops_at_count f e = stopped f (ap (λ c. by_head c (name_said (onward (start text)))) (sym (e ∙ ap count_said first)))
-
-  module _ (s' : Standing) (next : s' ≡ onward s) (counted : Ok tt ≡ count_said s) where
-    second : s' ≡ onward (start text)
-    second = next ∙ ap onward first
-
-    pub stops_at_rule : (f : Fault) → Err f ≡ name_said s' → Loads (loaded k title a.table text) a (Err f) a
-    unfolding by_head
-    stops_at_rule f e = stopped f (λ i. by_head (sym (counted ∙ ap count_said first) i) (sym (e ∙ ap name_said second) i))
-
-    pub loads_behind : (s'' : Standing) → s'' ≡ onward s' → Ok tt ≡ name_said s' → (r : Result (Unit {0}) Fault) (b : Area) → Loads (put_listed k a.table (list_all s'')) a r b → Loads (loaded k title a.table text) a r b
-    unfolding by_head
-    loads_behind s'' third named r b l =
-        subst (λ m. Loads m a r b)
-        (ap (λ z. put_listed k a.table (list_all z)) (third ∙ ap onward second) ∙ (λ i. by_head ((counted ∙ ap count_said first) i) ((named ∙ ap name_said second) i))) l

@@ -7,7 +7,7 @@ use Rattle.std.proofs.lemmas.Bool.{and_parts, cond-true, lt-ltb, ltb-true}
 use Rattle.costs.specs.Costs.{Costs, Laws}
 use Rattle.routes.specs.Lists.{when_some}
 use Rattle.routes.specs.Network.{Network}
-use Rattle.nearest.specs.Matrix.{matrix}
+use Rattle.squares.specs.Numbers.{number_matrix}
 use Rattle.tables.specs.Links.{is_pair}
 use Rattle.tables.specs.Tables.{Table}
 use Rattle.tables.specs.TwoWays.{two_way_table}
@@ -36,7 +36,7 @@ read_shown : {C : Type 0} (rule : Costs C) → Laws rule → (o : Option ℕ) �
 read_shown rule laws None = laws.zero_unread
 read_shown rule laws (Some n) = refl
 
-pub links_standing : {C : Type 0} (rule : Costs C) → Laws rule → (t : Table) → t.count ≤ 32 → matrix rule t.count (numbers_shown (two_way_table t)) ≡ standing_on rule t
+pub links_standing : {C : Type 0} (rule : Costs C) → Laws rule → (t : Table) → t.count ≤ 32 → number_matrix rule t.count (numbers_shown (two_way_table t)) ≡ standing_on rule t
 links_standing {C} rule laws t few = ap {B = Network C} (λ link. record { rule = rule; count = t.count; link = link }) (fun_ext (λ a. fun_ext (λ b. at a b (is_pair t.count a b) refl)))
   where
     at : (a b : ℕ) (p : Bool) → is_pair t.count a b ≡ p →

@@ -14,7 +14,7 @@ use Rattle.pagetable.specs.declared.page.Page.{Page}
 use Rattle.pagetable.specs.declared.table.PageTable.{PageTable}
 use Rattle.reports.specs.Reports.{report_text}
 use Rattle.routes.specs.Walk.{last_of}
-use Rattle.nearest.specs.Found.{best_memory}
+use Rattle.squares.specs.Found.{best_memory}
 use Rattle.page_settling.specs.Settled.{page_kept, rest_memory, Answers}
 use Rattle.tables.specs.Tables.{Table, Changed, pair_refusal, number_refusal, room_refusal, kept_refusal}
 use Rattle.area.specs.Networks.{standing_on}

@@ -1,11 +1,11 @@
 ghost use Rattle.std.specs.Prelude.{◌≡◌, ◌≤◌, length};
-ghost use Rattle.faults.specs.declared.fault.Fault.TheVariants as fault;
 ghost use Rattle.tables.specs.Meaning.{means};
 ghost use Rattle.tables.specs.Tables.{Unchanged};
 ghost use Rattle.area.specs.Areas.{opened, Put, Cut, Settle, hops_answer, path_answer, path_leaves, report_fault, report_of, report_answer, report_leaves, WhereGranted};
 ghost use Rattle.area.specs.Meaning.{area_of};
 
 use crate::area::Area;
+use crate::checks::{check, check_route, refused};
 use crate::links::read_links;
 use costs::Cost;
 use entries::Entry;
@@ -13,15 +13,9 @@ use faults::{Fault, Refusal};
 use page_settling::settle;
 use pagetable::PageTable;
 use reports::write_report;
+use squares::NumberSquare;
 use std::marker::PhantomData;
-use tables::{LinkTable, TwoWay};
-
-// A refusal of the area, where no file is read.
-pub(crate) fn refused(refusal: Refusal) -> Fault
-    ensures { result ≡ fault.Area refusal 0 }
-{
-    Fault::Area { refusal, line: 0 }
-}
+use tables::{LinkTable, TwoWay, check_pair};
 
 impl<C: Cost, T: LinkTable> Area<C, T> {
     // Lays an area on a table, all pages stale.
@@ -41,16 +35,8 @@ impl<C: Cost, T: LinkTable> Area<C, T> {
         ensures area { Put C.Cost.costs from to number (area_of T.LinkTable self.old) result (area_of T.LinkTable self.new) }
         ensures refused { Unchanged result self.old self.new }
     {
-        let count = self.table.count();
-        if from >= count || to >= count {
-            return Err(refused(Refusal::NoSuchRouter));
-        }
-        if from == to {
-            return Err(refused(Refusal::SameRouter));
-        }
-        if C::read(number).is_none() {
-            return Err(refused(Refusal::NumberNotRead));
-        }
+        check_pair(self.table.count(), from, to).map_err(refused)?;
+        C::read(number).ok_or(refused(Refusal::NumberNotRead))?;
         self.table.put(from, to, number)?;
         self.pages.mark_stale();
         Ok(())
@@ -61,13 +47,7 @@ impl<C: Cost, T: LinkTable> Area<C, T> {
         ensures area { Cut from to (area_of T.LinkTable self.old) result (area_of T.LinkTable self.new) }
         ensures refused { Unchanged result self.old self.new }
     {
-        let count = self.table.count();
-        if from >= count || to >= count {
-            return Err(refused(Refusal::NoSuchRouter));
-        }
-        if from == to {
-            return Err(refused(Refusal::SameRouter));
-        }
+        check_pair(self.table.count(), from, to).map_err(refused)?;
         self.table.cut(from, to)?;
         self.pages.mark_stale();
         Ok(())
@@ -78,13 +58,10 @@ impl<C: Cost, T: LinkTable> Area<C, T> {
         ensures { result ≡ hops_answer (area_of T.LinkTable self.now) root to }
     {
         let count = self.table.count();
-        if root >= count || to >= count {
-            return Err(refused(Refusal::NoSuchRouter));
-        }
-        if !self.pages.is_current(root) {
-            return Err(refused(Refusal::StalePage));
-        }
-        Ok(self.pages.page(root).hops_to(to))
+        check(root < count, Refusal::NoSuchRouter)?;
+        check(to < count, Refusal::NoSuchRouter)?;
+        let page = self.current(root)?;
+        Ok(page.hops_to(to))
     }
 
     // Writes the tree path from a root to a router to the front of the memory, and answers how many routers it has.
@@ -93,19 +70,11 @@ impl<C: Cost, T: LinkTable> Area<C, T> {
         ensures memory { out.new ≡ path_leaves (area_of T.LinkTable self.now) root to out.old }
     {
         let count = self.table.count();
-        if root >= count || to >= count {
-            return Err(refused(Refusal::NoSuchRouter));
-        }
-        if out.len() < count {
-            return Err(refused(Refusal::MemoryTooShort));
-        }
-        if !self.pages.is_current(root) {
-            return Err(refused(Refusal::StalePage));
-        }
-        let page = self.pages.page(root);
-        if to != root && page.father_of(to).is_none() {
-            return Err(refused(Refusal::NoRoute));
-        }
+        check(root < count, Refusal::NoSuchRouter)?;
+        check(to < count, Refusal::NoSuchRouter)?;
+        check(out.len() >= count, Refusal::MemoryTooShort)?;
+        let page = self.current(root)?;
+        check_route(&page, root, to)?;
         Ok(page.write_path(to, count - 1, out))
     }
 
@@ -122,17 +91,13 @@ impl<C: Cost, T: LinkTable> Area<C, T> {
         ensures table { self.new.table ≡ self.old.table }
     {
         let count = self.table.count();
-        if root >= count {
-            return Err(refused(Refusal::NoSuchRouter));
-        }
-        if best.len() < count {
-            return Err(refused(Refusal::MemoryTooShort));
-        }
-        if rest.len() < count * count || waiting.len() < count * count {
-            return Err(refused(Refusal::MemoryTooShort));
-        }
+        check(root < count, Refusal::NoSuchRouter)?;
+        check(best.len() >= count, Refusal::MemoryTooShort)?;
+        check(rest.len() >= count * count, Refusal::MemoryTooShort)?;
+        check(waiting.len() >= count * count, Refusal::MemoryTooShort)?;
         let links = read_links(&self.table);
-        let page = settle(&links, count, root, best, rest, waiting);
+        let square = NumberSquare::new(&links, count);
+        let page = settle(&square, root, best, rest, waiting);
         self.pages.enter(root, page);
         Ok(())
     }
@@ -144,20 +109,10 @@ impl<C: Cost, T: LinkTable> Area<C, T> {
         ensures fits { WhereGranted (report_fault (area_of T.LinkTable self.now) root (length out.old)) (length (report_of (area_of T.LinkTable self.now) root) ≤ 4096) }
     {
         let count = self.table.count();
-        if root >= count {
-            return Err(refused(Refusal::NoSuchRouter));
-        }
-        if out.len() < 4096 {
-            return Err(refused(Refusal::MemoryTooShort));
-        }
-        if !self.pages.is_current(root) {
-            return Err(refused(Refusal::StalePage));
-        }
-        let page = self.pages.page(root);
-        match write_report(&page, count, root, out) {
-            Ok(len) => Ok(len),
-            Err(refusal) => Err(refused(refusal)),
-        }
+        check(root < count, Refusal::NoSuchRouter)?;
+        check(out.len() >= 4096, Refusal::MemoryTooShort)?;
+        let page = self.current(root)?;
+        write_report(&page, count, root, out).map_err(refused)
     }
 
     // How many routers the area has.

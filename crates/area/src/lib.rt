@@ -3,6 +3,7 @@
 
 pub mod area;
 pub mod calls;
+mod checks;
 pub mod links;
 pub mod load;
 pub mod walks;

@@ -18,6 +18,7 @@ use linkfile::{Reader, bad_line, same};
 use tables::LinkTable;
 
 // The fault with the line of the file that it is about.
+// kept: an arm for each layer, since no plainer form keeps the layer and changes the line.
 fn on_line(fault: Fault, line: usize) -> Fault
     ensures { result ≡ on_line line fault }
 {
@@ -31,13 +32,13 @@ fn on_line(fault: Fault, line: usize) -> Fault
 impl<C: Cost, T: LinkTable> Area<C, T> {
     // The first line: the count of routers, which must be the table's.
     fn load_count(&self, reader: &mut Reader) -> Result<(), Fault>
-        ensures answer { result ≡ and_then (next_number lines.routers (stands reader.old)) (count_judged (T.LinkTable.count self.now.table.below) (stands reader.old).line) }
+        ensures answer { result ≡ and_then (next_number lines.routers (stands reader.old)) (count_judged (means T.LinkTable self.now.table.below).count (stands reader.old).line) }
         ensures text { lent reader.new ≡ lent reader.old }
         ensures reader { stands reader.new ≡ onward (stands reader.old) }
     {
         let line = reader.next_number();
         let count = read_routers(reader)? as usize;
-        if count < 2 || count > 32 || count != self.table.count() {
+        if !(2..=32).contains(&count) || count != self.table.count() {
             return Err(Fault::Area {
                 refusal: Refusal::BadCount,
                 line,
@@ -65,10 +66,8 @@ impl<C: Cost, T: LinkTable> Area<C, T> {
         ensures answer { result ≡ done (fault_on d.line (put_fault C.Cost.costs (means T.LinkTable self.old.table.below) d.from d.to d.number)) }
         ensures area { Put C.Cost.costs d.from d.to d.number (area_of T.LinkTable self.old) (done (put_fault C.Cost.costs (means T.LinkTable self.old.table.below) d.from d.to d.number)) (area_of T.LinkTable self.new) }
     {
-        match self.put(d.from as usize, d.to as usize, d.number) {
-            Ok(()) => Ok(()),
-            Err(fault) => Err(on_line(fault, d.line)),
-        }
+        self.put(d.from as usize, d.to as usize, d.number)
+            .map_err(|fault| on_line(fault, d.line))
     }
 
     // Puts the directions that are left, up to the first fault.

@@ -3,7 +3,7 @@ ghost use Rattle.area.specs.Areas.{walk_answer, walk_leaves};
 ghost use Rattle.area.specs.Meaning.{area_of};
 
 use crate::area::Area;
-use crate::calls::refused;
+use crate::checks::{check, check_route, refused};
 use costs::Cost;
 use faults::{Fault, Refusal};
 use tables::LinkTable;
@@ -22,21 +22,12 @@ impl<C: Cost, T: LinkTable> Area<C, T> {
         ensures memory { trail.new ≡ walk_leaves (area_of T.LinkTable self.now) from to picks.now trail.old }
     {
         let count = self.table.count();
-        if from >= count || to >= count {
-            return Err(refused(Refusal::NoSuchRouter));
-        }
-        if trail.len() < count {
-            return Err(refused(Refusal::MemoryTooShort));
-        }
-        if picks.len() < count - 1 {
-            return Err(refused(Refusal::TooFewPicks));
-        }
-        if !self.pages.all_current(count) {
-            return Err(refused(Refusal::StalePage));
-        }
-        if to != from && self.pages.page(from).father_of(to).is_none() {
-            return Err(refused(Refusal::NoRoute));
-        }
+        check(from < count, Refusal::NoSuchRouter)?;
+        check(to < count, Refusal::NoSuchRouter)?;
+        check(trail.len() >= count, Refusal::MemoryTooShort)?;
+        check(picks.len() >= count - 1, Refusal::TooFewPicks)?;
+        check(self.pages.all_current(count), Refusal::StalePage)?;
+        check_route(&self.pages.page(from), from, to)?;
         let hops = self.pages.walk(count, from, to, picks, trail);
         if trail[hops] == to {
             Ok(hops)

@@ -1,7 +1,7 @@
 use crate::setup::*;
 use area::Area;
 use costs::PathCost;
-use faults::Refusal;
+use faults::{Fault, Refusal};
 use grid::Grid;
 use records::{Record, Records};
 use std::process::Abort;
@@ -18,7 +18,7 @@ fn a_granted_change_makes_pages_stale(rt: HostRuntime) {
     stale(&rt, &area, 0);
     stale(&rt, &area, 4);
     settle(&rt, &mut area, 0);
-    answers(&rt, &area, 0, 2, (Some(2), 0b100, 0b10));
+    assert_eq!(rt; area.hops(0, 2), Ok((Some(2), 0b100, 0b10)));
     stale(&rt, &area, 4);
     assert_eq!(rt; area.cut(3, 4), Ok(()));
     stale(&rt, &area, 0);
@@ -30,9 +30,9 @@ fn a_refused_change_leaves_pages_current(rt: HostRuntime) {
     let mut area: Area<u32, Grid> = Area::open(Grid::make(&mut cells, 5));
     put_net_k(&rt, &mut area);
     settle(&rt, &mut area, 0);
-    refused(&rt, area.put(0, 1, 0), Refusal::NumberNotRead);
-    refused_by_table(&rt, area.cut(0, 4), Refusal::NotKept);
-    answers(&rt, &area, 0, 2, (Some(2), 0b100, 0b10));
+    assert_eq!(rt; area.put(0, 1, 0), Err(by_area(Refusal::NumberNotRead)));
+    assert_eq!(rt; area.cut(0, 4), Err(Fault::of_table(Refusal::NotKept)));
+    assert_eq!(rt; area.hops(0, 2), Ok((Some(2), 0b100, 0b10)));
 }
 
 // A link needs both directions: without 3 to 4 no route leads to 4, and none from it.
@@ -43,10 +43,14 @@ fn one_direction_cut(rt: HostRuntime) {
     put_net_k(&rt, &mut area);
     assert_eq!(rt; area.cut(3, 4), Ok(()));
     settle_all(&rt, &mut area);
-    answers(&rt, &area, 3, 4, (None, 0, 0));
-    answers(&rt, &area, 4, 3, (None, 0, 0));
+    assert_eq!(rt; area.hops(3, 4), Ok((None, 0, 0)));
+    assert_eq!(rt; area.hops(4, 3), Ok((None, 0, 0)));
     let mut out = [9; 6];
     assert_eq!(rt; area.path(0, 4, &mut out), Err(by_area(Refusal::NoRoute)));
+    assert_eq!(rt;
+        area.walk(0, 4, &[0; 4], &mut out),
+        Err(by_area(Refusal::NoRoute))
+    );
     assert_eq!(rt; out, [9; 6]);
     assert_eq!(rt; area.path(4, 4, &mut out), Ok(1));
     assert_eq!(rt; out, [4, 9, 9, 9, 9, 9]);
@@ -55,11 +59,15 @@ fn one_direction_cut(rt: HostRuntime) {
 // The numbers that `sum` reads, on a table of two routers.
 fn puts_by_sum<T: LinkTable + Drop>(rt: &impl Abort, table: T) {
     let mut area: Area<u32, T> = Area::open(table);
-    refused(rt, area.put(0, 1, 0), Refusal::NumberNotRead);
-    assert_eq!(rt; area.put(0, 1, 1), Ok(()));
-    assert_eq!(rt; area.put(0, 1, 65535), Ok(()));
-    refused(rt, area.put(0, 1, 65536), Refusal::NumberNotRead);
-    refused(rt, area.put(0, 1, u32::MAX), Refusal::NumberNotRead);
+    for number in [1, 65535] {
+        assert_eq!(rt; area.put(0, 1, number), Ok(()));
+    }
+    for number in [0, 65536, u32::MAX] {
+        assert_eq!(rt;
+            area.put(0, 1, number),
+            Err(by_area(Refusal::NumberNotRead))
+        );
+    }
 }
 
 #[test]
@@ -75,9 +83,12 @@ fn numbers_under_sum(rt: HostRuntime) {
 fn numbers_under_hops_width(rt: HostRuntime) {
     let mut cells = [0u16; 4];
     let mut area: Area<PathCost, Grid> = Area::open(Grid::make(&mut cells, 2));
-    refused(&rt, area.put(0, 1, 0), Refusal::NumberNotRead);
+    assert_eq!(rt; area.put(0, 1, 0), Err(by_area(Refusal::NumberNotRead)));
     assert_eq!(rt; area.put(0, 1, 65535), Ok(()));
-    refused_by_table(&rt, area.put(0, 1, 65536), Refusal::NumberOutOfRange);
+    assert_eq!(rt;
+        area.put(0, 1, 65536),
+        Err(Fault::of_table(Refusal::NumberOutOfRange))
+    );
 }
 
 // A table of three routers that has room for two pairs.
@@ -85,11 +96,11 @@ fn has_room_for_two<T: LinkTable + Drop>(rt: &impl Abort, table: T) {
     let mut area: Area<u32, T> = Area::open(table);
     assert_eq!(rt; area.put(0, 1, 5), Ok(()));
     assert_eq!(rt; area.put(1, 0, 5), Ok(()));
-    refused_by_table(rt, area.put(0, 2, 5), Refusal::Full);
+    assert_eq!(rt; area.put(0, 2, 5), Err(Fault::of_table(Refusal::Full)));
     assert_eq!(rt; area.put(1, 0, 6), Ok(()));
     assert_eq!(rt; area.cut(0, 1), Ok(()));
     assert_eq!(rt; area.put(0, 2, 5), Ok(()));
-    refused_by_table(rt, area.cut(0, 1), Refusal::NotKept);
+    assert_eq!(rt; area.cut(0, 1), Err(Fault::of_table(Refusal::NotKept)));
 }
 
 #[test]

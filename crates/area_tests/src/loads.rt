@@ -1,6 +1,6 @@
 use crate::setup::*;
 use area::Area;
-use costs::PathCost;
+use costs::{Cost, PathCost};
 use entries::Entry;
 use faults::{Fault, Refusal};
 use grid::Grid;
@@ -18,9 +18,7 @@ fn reports_two_routers<T: LinkTable>(rt: &impl Abort, area: &mut Area<u32, T>) {
     let mut out = [b'~'; 4096];
     assert_eq!(rt; area.report(0, &mut out), Ok(34));
     assert!(rt; &out[0..34] == b"root=0\nto=1\ntree=1\nvalid=1\nother=\n".as_slice());
-    for byte in &out[34..4096] {
-        assert_eq!(rt; *byte, b'~');
-    }
+    assert!(rt; out[34..].iter().all(|byte| *byte == b'~'));
 }
 
 #[test]
@@ -47,76 +45,69 @@ fn two_routers_loaded(rt: HostRuntime) {
     loads_two_routers(&rt, Records::make(&mut room, 2));
 }
 
-// Loads a file into a new area on a grid of two routers, under `sum`.
-fn load_by_sum(text: &[u8]) -> Result<(), Fault> {
+// Loads a file into a new area on a grid of two routers, under a rule.
+fn load_by<C: Cost>(text: &[u8]) -> Result<(), Fault> {
     let mut cells = [0u16; 4];
-    let mut area: Area<u32, Grid> = Area::open(Grid::make(&mut cells, 2));
+    let mut area: Area<C, Grid> = Area::open(Grid::make(&mut cells, 2));
     area.load(text)
 }
 
-// The same, under `hops-width`.
-fn load_by_width(text: &[u8]) -> Result<(), Fault> {
-    let mut cells = [0u16; 4];
-    let mut area: Area<PathCost, Grid> = Area::open(Grid::make(&mut cells, 2));
-    area.load(text)
-}
-
-// The load is refused by the reader on this line.
-fn bad_line(rt: &impl Abort, answer: Result<(), Fault>, line: usize) {
+// The fault of the reader on this line.
+fn bad_line(line: usize) -> Fault {
     let refusal = Refusal::BadLine;
-    assert_eq!(rt; answer, Err(Fault::Reader { refusal, line }));
+    Fault::Reader { refusal, line }
 }
 
 #[test]
 fn heads_refused(rt: HostRuntime) {
     let refusal = Refusal::BadCount;
     let bad_count = Fault::Area { refusal, line: 1 };
-    assert_eq!(rt; load_by_sum(b"routers=3\nrule=sum\n"), Err(bad_count));
-    assert_eq!(rt; load_by_sum(b"routers=1\n"), Err(bad_count));
-    assert_eq!(rt; load_by_width(b"routers=33\nrule=sum\n"), Err(bad_count));
-    bad_line(&rt, load_by_sum(b""), 1);
-    bad_line(&rt, load_by_sum(b"rule=sum\n"), 1);
-    bad_line(
-        &rt,
-        load_by_sum(b"routers=2\nrule=hops-width\nend=links\n"),
-        2,
-    );
-    bad_line(&rt, load_by_width(b"routers=2\nrule=sum\nend=links\n"), 2);
-    bad_line(&rt, load_by_sum(b"routers=2\nrule=sum\n"), 3);
-    bad_line(&rt, load_by_sum(b"routers=2\nrule=sum\nend=links\n\n"), 4);
-    assert_eq!(rt; load_by_sum(b"routers=2\nrule=sum\nend=links\n"), Ok(()));
+    for (text, answer) in [
+        (b"routers=3\nrule=sum\n".as_slice(), Err(bad_count)),
+        (b"routers=1\n", Err(bad_count)),
+        (b"", Err(bad_line(1))),
+        (b"rule=sum\n", Err(bad_line(1))),
+        (b"routers=2\nrule=hops-width\nend=links\n", Err(bad_line(2))),
+        (b"routers=2\nrule=sum\n", Err(bad_line(3))),
+        (b"routers=2\nrule=sum\nend=links\n\n", Err(bad_line(4))),
+        (b"routers=2\nrule=sum\nend=links\n", Ok(())),
+    ] {
+        assert_eq!(rt; load_by::<u32>(text), answer);
+    }
+    for (text, answer) in [
+        (b"routers=33\nrule=sum\n".as_slice(), Err(bad_count)),
+        (b"routers=2\nrule=sum\nend=links\n", Err(bad_line(2))),
+    ] {
+        assert_eq!(rt; load_by::<PathCost>(text), answer);
+    }
 }
 
-// The first direction is refused by the area: on line 5, which has its weight.
-fn first_refused(rt: &impl Abort, answer: Result<(), Fault>, refusal: Refusal) {
-    assert_eq!(rt; answer, Err(Fault::Area { refusal, line: 5 }));
-}
-
+// A refused first direction has line 5, which has its weight.
 #[test]
 fn first_directions_refused(rt: HostRuntime) {
-    first_refused(
-        &rt,
-        load_by_sum(b"routers=2\nrule=sum\nfrom=0\nto=5\nweight=0\n"),
-        Refusal::NoSuchRouter,
-    );
-    first_refused(
-        &rt,
-        load_by_sum(b"routers=2\nrule=sum\nfrom=0\nto=0\nweight=0\n"),
-        Refusal::SameRouter,
-    );
-    first_refused(
-        &rt,
-        load_by_sum(b"routers=2\nrule=sum\nfrom=0\nto=1\nweight=0\n"),
-        Refusal::NumberNotRead,
-    );
-    first_refused(
-        &rt,
-        load_by_sum(b"routers=2\nrule=sum\nfrom=0\nto=1\nweight=65536\n"),
-        Refusal::NumberNotRead,
-    );
+    for (text, refusal) in [
+        (
+            b"routers=2\nrule=sum\nfrom=0\nto=5\nweight=0\n".as_slice(),
+            Refusal::NoSuchRouter,
+        ),
+        (
+            b"routers=2\nrule=sum\nfrom=0\nto=0\nweight=0\n",
+            Refusal::SameRouter,
+        ),
+        (
+            b"routers=2\nrule=sum\nfrom=0\nto=1\nweight=0\n",
+            Refusal::NumberNotRead,
+        ),
+        (
+            b"routers=2\nrule=sum\nfrom=0\nto=1\nweight=65536\n",
+            Refusal::NumberNotRead,
+        ),
+    ] {
+        assert_eq!(rt; load_by::<u32>(text), Err(Fault::Area { refusal, line: 5 }));
+    }
     let refusal = Refusal::NumberOutOfRange;
     assert_eq!(rt;
-        load_by_width(b"routers=2\nrule=hops-width\nfrom=0\nto=1\nweight=65536\n"),
+        load_by::<PathCost>(b"routers=2\nrule=hops-width\nfrom=0\nto=1\nweight=65536\n"),
         Err(Fault::Table { refusal, line: 5 })
     );
 }
@@ -149,13 +140,15 @@ fn what_a_fault_leaves(rt: HostRuntime) {
     let mut cells = [0u16; 4];
     let mut area: Area<u32, Grid> = Area::open(Grid::make(&mut cells, 2));
     settle_all(&rt, &mut area);
-    bad_line(&rt, area.load(b"routers=2\nrule=sum\nfrom=0\nto=1\n"), 5);
-    answers(&rt, &area, 0, 1, (None, 0, 0));
-    refused_by_table(&rt, area.cut(0, 1), Refusal::NotKept);
-    bad_line(
-        &rt,
+    assert_eq!(rt;
+        area.load(b"routers=2\nrule=sum\nfrom=0\nto=1\n"),
+        Err(bad_line(5))
+    );
+    assert_eq!(rt; area.hops(0, 1), Ok((None, 0, 0)));
+    assert_eq!(rt; area.cut(0, 1), Err(Fault::of_table(Refusal::NotKept)));
+    assert_eq!(rt;
         area.load(b"routers=2\nrule=sum\nfrom=0\nto=1\nweight=7\nend=\n"),
-        6,
+        Err(bad_line(6))
     );
     stale(&rt, &area, 0);
     stale(&rt, &area, 1);

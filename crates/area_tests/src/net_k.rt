@@ -23,13 +23,17 @@ fn has_costs<T: LinkTable>(rt: &impl Abort, area: &mut Area<u32, T>) {
 }
 
 fn has_hops<T: LinkTable>(rt: &impl Abort, area: &Area<u32, T>) {
-    answers(rt, area, 0, 0, (None, 0, 0));
-    answers(rt, area, 0, 2, (Some(2), 0b100, 0b10));
-    answers(rt, area, 0, 3, (Some(1), 0b110, 0));
-    answers(rt, area, 0, 4, (Some(1), 0b110, 0));
-    answers(rt, area, 2, 1, (Some(3), 0b1001, 0));
-    answers(rt, area, 3, 0, (Some(1), 0b10, 0b100));
-    answers(rt, area, 3, 4, (Some(4), 0b10000, 0));
+    for (root, to, sets) in [
+        (0, 0, (None, 0, 0)),
+        (0, 2, (Some(2), 0b100, 0b10)),
+        (0, 3, (Some(1), 0b110, 0)),
+        (0, 4, (Some(1), 0b110, 0)),
+        (2, 1, (Some(3), 0b1001, 0)),
+        (3, 0, (Some(1), 0b10, 0b100)),
+        (3, 4, (Some(4), 0b10000, 0)),
+    ] {
+        assert_eq!(rt; area.hops(root, to), Ok(sets));
+    }
 }
 
 fn has_paths<T: LinkTable>(rt: &impl Abort, area: &Area<u32, T>) {
@@ -38,6 +42,21 @@ fn has_paths<T: LinkTable>(rt: &impl Abort, area: &Area<u32, T>) {
     assert_eq!(rt; out, [0, 9, 9, 9, 9, 9]);
     assert_eq!(rt; area.path(0, 4, &mut out), Ok(4));
     assert_eq!(rt; out, [0, 1, 3, 4, 9, 9]);
+}
+
+// From 0 to 4 the first pick chooses between two valid hops; at the other routers there is one.
+fn has_walks<T: LinkTable>(rt: &impl Abort, area: &Area<u32, T>) {
+    for (picks, met) in [
+        ([1, 0, 0, 0], [0, 2, 3, 4, 9, 9]),
+        ([0, 0, 0, 0], [0, 1, 3, 4, 9, 9]),
+    ] {
+        let mut trail = [9; 6];
+        assert_eq!(rt; area.walk(0, 4, &picks, &mut trail), Ok(3));
+        assert_eq!(rt; trail, met);
+    }
+    let mut trail = [9; 5];
+    assert_eq!(rt; area.walk(2, 2, &[0; 4], &mut trail), Ok(0));
+    assert_eq!(rt; trail, [2, 9, 9, 9, 9]);
 }
 
 // What net K answers under `sum` on a table of five routers that keeps nothing yet.
@@ -49,6 +68,7 @@ fn is_net_k<T: LinkTable + Drop>(rt: &impl Abort, table: T) {
     settle_all(rt, &mut area);
     has_hops(rt, &area);
     has_paths(rt, &area);
+    has_walks(rt, &area);
 }
 
 #[test]
@@ -78,5 +98,5 @@ fn net_k_under_hops_width(rt: HostRuntime) {
         area.settle(0, &mut [none; 5], &mut [none; 25], &mut waiting),
         Ok(())
     );
-    answers(&rt, &area, 0, 3, (Some(1), 0b110, 0));
+    assert_eq!(rt; area.hops(0, 3), Ok((Some(1), 0b110, 0)));
 }

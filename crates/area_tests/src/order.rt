@@ -21,16 +21,18 @@ fn settle_refused<T: LinkTable>(
     assert!(rt; places.0 <= 5 && places.1 <= 25 && places.2 <= 25);
     let answer = area.settle(
         root,
-        &mut best[0..places.0],
-        &mut rest[0..places.1],
-        &mut waiting[0..places.2],
+        &mut best[..places.0],
+        &mut rest[..places.1],
+        &mut waiting[..places.2],
     );
-    refused(rt, answer, refusal);
+    assert_eq!(rt; answer, Err(by_area(refusal)));
     assert_eq!(rt; best, [9; 5]);
     assert_eq!(rt; rest, [9; 25]);
-    for entry in &waiting {
-        assert_eq!(rt; (entry.cost, entry.router), (9, 9));
-    }
+    assert!(rt;
+        waiting
+            .iter()
+            .all(|entry| entry.cost == 9 && entry.router == 9)
+    );
 }
 
 #[test]
@@ -38,17 +40,15 @@ fn settle_in_order(rt: HostRuntime) {
     let mut cells = [0u16; 25];
     let mut area: Area<u32, Grid> = Area::open(Grid::make(&mut cells, 5));
     put_net_k(&rt, &mut area);
-    settle_refused(&rt, &mut area, 5, (0, 0, 0), Refusal::NoSuchRouter);
-    settle_refused(
-        &rt,
-        &mut area,
-        usize::MAX,
-        (5, 25, 25),
-        Refusal::NoSuchRouter,
-    );
-    settle_refused(&rt, &mut area, 0, (4, 25, 25), Refusal::MemoryTooShort);
-    settle_refused(&rt, &mut area, 0, (5, 24, 25), Refusal::MemoryTooShort);
-    settle_refused(&rt, &mut area, 0, (5, 25, 24), Refusal::MemoryTooShort);
+    for (root, places, refusal) in [
+        (5, (0, 0, 0), Refusal::NoSuchRouter),
+        (usize::MAX, (5, 25, 25), Refusal::NoSuchRouter),
+        (0, (4, 25, 25), Refusal::MemoryTooShort),
+        (0, (5, 24, 25), Refusal::MemoryTooShort),
+        (0, (5, 25, 24), Refusal::MemoryTooShort),
+    ] {
+        settle_refused(&rt, &mut area, root, places, refusal);
+    }
     stale(&rt, &area, 0);
 }
 
@@ -57,14 +57,22 @@ fn changes_in_order<T: LinkTable + Drop>(rt: &impl Abort, table: T) {
     let mut area: Area<u32, T> = Area::open(table);
     assert_eq!(rt; area.put(0, 1, 5), Ok(()));
     assert_eq!(rt; area.put(1, 0, 5), Ok(()));
-    refused(rt, area.put(3, 3, 0), Refusal::NoSuchRouter);
-    refused(rt, area.put(2, 3, 0), Refusal::NoSuchRouter);
-    refused(rt, area.put(2, 2, 0), Refusal::SameRouter);
-    refused(rt, area.put(2, 1, 0), Refusal::NumberNotRead);
-    refused_by_table(rt, area.put(2, 1, 1), Refusal::Full);
-    refused(rt, area.cut(3, 3), Refusal::NoSuchRouter);
-    refused(rt, area.cut(2, 2), Refusal::SameRouter);
-    refused_by_table(rt, area.cut(2, 1), Refusal::NotKept);
+    for (from, to, number, fault) in [
+        (3, 3, 0, by_area(Refusal::NoSuchRouter)),
+        (2, 3, 0, by_area(Refusal::NoSuchRouter)),
+        (2, 2, 0, by_area(Refusal::SameRouter)),
+        (2, 1, 0, by_area(Refusal::NumberNotRead)),
+        (2, 1, 1, Fault::of_table(Refusal::Full)),
+    ] {
+        assert_eq!(rt; area.put(from, to, number), Err(fault));
+    }
+    for (from, to, fault) in [
+        (3, 3, by_area(Refusal::NoSuchRouter)),
+        (2, 2, by_area(Refusal::SameRouter)),
+        (2, 1, Fault::of_table(Refusal::NotKept)),
+    ] {
+        assert_eq!(rt; area.cut(from, to), Err(fault));
+    }
 }
 
 #[test]
@@ -77,44 +85,88 @@ fn put_and_cut_in_order(rt: HostRuntime) {
 fn hops_in_order(rt: HostRuntime) {
     let mut cells = [0u16; 25];
     let mut area: Area<u32, Grid> = Area::open(Grid::make(&mut cells, 5));
-    let no_router = by_area(Refusal::NoSuchRouter);
-    assert_eq!(rt; area.hops(5, 0), Err(no_router));
-    assert_eq!(rt; area.hops(0, 5), Err(no_router));
-    assert_eq!(rt; area.hops(0, 1), Err(by_area(Refusal::StalePage)));
+    for (root, to, refusal) in [
+        (5, 0, Refusal::NoSuchRouter),
+        (0, 5, Refusal::NoSuchRouter),
+        (0, 1, Refusal::StalePage),
+    ] {
+        assert_eq!(rt; area.hops(root, to), Err(by_area(refusal)));
+    }
     settle(&rt, &mut area, 0);
-    assert_eq!(rt; area.hops(0, 5), Err(no_router));
-    answers(&rt, &area, 0, 1, (None, 0, 0));
+    assert_eq!(rt; area.hops(0, 5), Err(by_area(Refusal::NoSuchRouter)));
+    assert_eq!(rt; area.hops(0, 1), Ok((None, 0, 0)));
 }
 
-// The path is refused by this, and leaves the memory as it was.
-fn path_refused<T: LinkTable>(
+// Each path, from a root to a router in so many places, is refused by this, and leaves the memory as it was.
+fn paths_refused<T: LinkTable>(
     rt: &impl Abort,
     area: &Area<u32, T>,
-    root: usize,
-    to: usize,
-    places: usize,
-    refusal: Refusal,
+    cases: &[(usize, usize, usize, Refusal)],
 ) {
-    let mut out = [9; 5];
-    assert!(rt; places <= 5);
-    assert_eq!(rt;
-        area.path(root, to, &mut out[0..places]),
-        Err(by_area(refusal))
-    );
-    assert_eq!(rt; out, [9; 5]);
+    for (root, to, places, refusal) in cases {
+        let mut out = [9; 5];
+        assert!(rt; *places <= 5);
+        assert_eq!(rt;
+            area.path(*root, *to, &mut out[..*places]),
+            Err(by_area(*refusal))
+        );
+        assert_eq!(rt; out, [9; 5]);
+    }
 }
 
 #[test]
 fn path_in_order(rt: HostRuntime) {
     let mut cells = [0u16; 25];
     let mut area: Area<u32, Grid> = Area::open(Grid::make(&mut cells, 5));
-    path_refused(&rt, &area, 5, 0, 4, Refusal::NoSuchRouter);
-    path_refused(&rt, &area, 0, 5, 4, Refusal::NoSuchRouter);
-    path_refused(&rt, &area, 0, 1, 4, Refusal::MemoryTooShort);
-    path_refused(&rt, &area, 0, 1, 5, Refusal::StalePage);
+    let stale = [
+        (5, 0, 4, Refusal::NoSuchRouter),
+        (0, 5, 4, Refusal::NoSuchRouter),
+        (0, 1, 4, Refusal::MemoryTooShort),
+        (0, 1, 5, Refusal::StalePage),
+    ];
+    paths_refused(&rt, &area, &stale);
     settle(&rt, &mut area, 0);
-    path_refused(&rt, &area, 0, 1, 4, Refusal::MemoryTooShort);
-    path_refused(&rt, &area, 0, 1, 5, Refusal::NoRoute);
+    let current = [
+        (0, 1, 4, Refusal::MemoryTooShort),
+        (0, 1, 5, Refusal::NoRoute),
+    ];
+    paths_refused(&rt, &area, &current);
+}
+
+// A walk with so many picks in so many places is refused by this, and leaves the trail as it was.
+fn walk_refused<T: LinkTable>(
+    rt: &impl Abort,
+    area: &Area<u32, T>,
+    ends: (usize, usize),
+    picks: usize,
+    places: usize,
+    refusal: Refusal,
+) {
+    let mut trail = [9; 5];
+    assert!(rt; picks <= 4 && places <= 5);
+    assert_eq!(rt;
+        area.walk(ends.0, ends.1, &[0; 4][..picks], &mut trail[..places]),
+        Err(by_area(refusal))
+    );
+    assert_eq!(rt; trail, [9; 5]);
+}
+
+#[test]
+fn walk_in_order(rt: HostRuntime) {
+    let mut cells = [0u16; 25];
+    let mut area: Area<u32, Grid> = Area::open(Grid::make(&mut cells, 5));
+    settle(&rt, &mut area, 0);
+    for (ends, picks, places, refusal) in [
+        ((5, 0), 3, 4, Refusal::NoSuchRouter),
+        ((0, 5), 3, 4, Refusal::NoSuchRouter),
+        ((0, 1), 3, 4, Refusal::MemoryTooShort),
+        ((0, 1), 3, 5, Refusal::TooFewPicks),
+        ((0, 1), 4, 5, Refusal::StalePage),
+    ] {
+        walk_refused(&rt, &area, ends, picks, places, refusal);
+    }
+    settle_all(&rt, &mut area);
+    walk_refused(&rt, &area, (0, 1), 4, 5, Refusal::NoRoute);
 }
 
 // The report is refused by this, and leaves the memory as it was.
@@ -128,7 +180,7 @@ fn report_refused<T: LinkTable>(
     let mut out = [9u8; 4096];
     assert!(rt; places <= 4096);
     assert_eq!(rt;
-        area.report(root, &mut out[0..places]),
+        area.report(root, &mut out[..places]),
         Err(by_area(refusal))
     );
     assert!(rt; out == [9; 4096]);
@@ -151,10 +203,12 @@ fn an_area_of_no_routers(rt: HostRuntime) {
     let mut cells = [0u16; 8];
     let mut area: Area<u32, Grid> = Area::open(Grid::make(&mut cells, 3));
     assert_eq!(rt; area.count(), 0);
-    refused(&rt, area.put(0, 1, 5), Refusal::NoSuchRouter);
-    refused(&rt, area.cut(0, 1), Refusal::NoSuchRouter);
+    let no_router = Err(by_area(Refusal::NoSuchRouter));
+    assert_eq!(rt; area.put(0, 1, 5), no_router);
+    assert_eq!(rt; area.cut(0, 1), no_router);
     settle_refused(&rt, &mut area, 0, (5, 25, 25), Refusal::NoSuchRouter);
-    path_refused(&rt, &area, 0, 0, 5, Refusal::NoSuchRouter);
+    paths_refused(&rt, &area, &[(0, 0, 5, Refusal::NoSuchRouter)]);
+    walk_refused(&rt, &area, (0, 0), 4, 5, Refusal::NoSuchRouter);
     report_refused(&rt, &area, 0, 4096, Refusal::NoSuchRouter);
     let bad_count = Fault::Area {
         refusal: Refusal::BadCount,

@@ -10,8 +10,7 @@ const LINKS: [(usize, usize, u32); 5] = [(0, 1, 1), (0, 2, 3), (1, 3, 2), (2, 3,
 
 // Puts the links of net K.
 pub(crate) fn put_net_k<C: Cost, T: LinkTable>(rt: &impl Abort, area: &mut Area<C, T>) {
-    for link in &LINKS {
-        let (a, b, number) = *link;
+    for (a, b, number) in LINKS {
         assert_eq!(rt; area.put(a, b, number), Ok(()));
         assert_eq!(rt; area.put(b, a, number), Ok(()));
     }
@@ -20,16 +19,6 @@ pub(crate) fn put_net_k<C: Cost, T: LinkTable>(rt: &impl Abort, area: &mut Area<
 // A fault of the area, where no file is read.
 pub(crate) fn by_area(refusal: Refusal) -> Fault {
     Fault::Area { refusal, line: 0 }
-}
-
-// The area refuses the call by this.
-pub(crate) fn refused(rt: &impl Abort, answer: Result<(), Fault>, refusal: Refusal) {
-    assert_eq!(rt; answer, Err(by_area(refusal)));
-}
-
-// The table refuses the call by this.
-pub(crate) fn refused_by_table(rt: &impl Abort, answer: Result<(), Fault>, refusal: Refusal) {
-    assert_eq!(rt; answer, Err(Fault::of_table(refusal)));
 }
 
 // Settles a root of at most five under `sum`.
@@ -46,17 +35,6 @@ pub(crate) fn settle_all<T: LinkTable>(rt: &impl Abort, area: &mut Area<u32, T>)
     for root in 0..area.count() {
         settle(rt, area, root);
     }
-}
-
-// The root's page answers this tree hop, this valid set and this other set.
-pub(crate) fn answers<C: Cost, T: LinkTable>(
-    rt: &impl Abort,
-    area: &Area<C, T>,
-    root: usize,
-    to: usize,
-    sets: (Option<usize>, u32, u32),
-) {
-    assert_eq!(rt; area.hops(root, to), Ok(sets));
 }
 
 // The root's page is stale.

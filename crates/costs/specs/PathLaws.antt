@@ -1,9 +1,10 @@
 -- The rule `hops-width` keeps the laws, and the join of m link costs has m hops.
-use Rattle.std.specs.Prelude.{◌≡◌, ℕ, ◌^◌, ◌<◌, Bool, true, false, cond, ◌&&◌, Some, None, nat_le, refl}
+use Rattle.std.specs.Prelude.{◌≡◌, ℕ, ◌^◌, ◌<◌, Some, refl}
 use Rattle.std.proofs.Common.{ap, sym, arith}
 use mathlib.Core.HLevel.{is_prop→PathP}
 use Rattle.std.proofs.Math.Bridge.{le_prop}
 use Rattle.std.proofs.lemmas.Bool.Decides.{nat_tests}
+use Rattle.std.proofs.lemmas.Option.{cond_some}
 use Rattle.costs.specs.declared.path.PathCost.{PathCost}
 use Rattle.costs.specs.Costs.{Laws, Joins, none, more}
 use Rattle.costs.specs.Paths.{one_hop, path_read, hops_width}
@@ -12,13 +13,8 @@ use Rattle.costs.specs.Paths.{one_hop, path_read, hops_width}
 pub same_path : (a b : PathCost) → a.hops ≡ b.hops → a.width ≡ b.width → a ≡ b
 same_path a b h w = λ i. record { hops = h i; width = w i; fits = is_prop→PathP (λ j. w j < 2 ^ 32) (λ j. le_prop) a.fits b.fits i }
 
--- a cost that is read under a test is the one that the test lets through
-from_read : {X : Type 0} (b : Bool) (x l : X) → cond b (Some x) None ≡ Some l → x ≡ l
-from_read true x l h = cc
-from_read false x l h = cc
-
 link_hops : (n : ℕ) (l : PathCost) → path_read n ≡ Some l → l.hops ≡ 1
-link_hops n l h = ap (λ (c : PathCost). c.hops) (sym (from_read (nat_le 1 n && nat_le n 4294967295) (one_hop n) l h))
+link_hops n l h = ap (λ (c : PathCost). c.hops) (sym (cond_some _ (one_hop n) l h).1)
 
 pub path_lawful : Laws hops_width
 path_lawful = record {

@@ -13,6 +13,7 @@ impl Cost for PathCost {
 
     ghost lawful = { path_lawful };
 
+    #[tactic(auto, using(crate::specs::PathLaws::same_path))]
     fn zero() -> PathCost {
         PathCost {
             hops: 0,
@@ -20,16 +21,15 @@ impl Cost for PathCost {
         }
     }
 
+    #[tactic(auto, using(crate::specs::PathLaws::same_path))]
     fn read(number: u32) -> Option<PathCost> {
-        if number == 0 {
-            return None;
-        }
-        Some(PathCost {
+        (number >= 1).then_some(PathCost {
             hops: 1,
             width: number,
         })
     }
 
+    #[tactic(auto, using(crate::specs::PathLaws::same_path, crate::specs::PathLaws::joins_hops))]
     fn join(self, other: PathCost) -> PathCost {
         PathCost {
             hops: self.hops + other.hops,

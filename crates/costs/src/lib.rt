@@ -30,6 +30,8 @@ pub trait Cost: Copy {
         ensures { result ≡ costs.join self other };
 
     // Whether this cost is strictly lower than the other.
+    // kept: each rule has one order, whose laws are the rule's; `Ord` would ask for the same
+    // order in `cmp` and `partial_cmp`, by hand, since the width counts downwards.
     fn lower(self, other: Self) -> bool
         ensures { result ≡ costs.lower self other };
 

@@ -17,13 +17,10 @@ impl Cost for u32 {
     }
 
     fn read(number: u32) -> Option<u32> {
-        if number >= 1 && number <= 65535 {
-            Some(number)
-        } else {
-            None
-        }
+        (1..=65535).contains(&number).then_some(number)
     }
 
+    #[tactic(auto, using(crate::specs::SumLaws::joins_bound))]
     fn join(self, other: u32) -> u32 {
         self + other
     }

@@ -1,10 +1,10 @@
 -- Lists with commas that grow at their end.
-use Rattle.std.proofs.Common.{◌≡◌, ℕ, zero, suc, ◌+◌, ◌-◌, ◌<◌, ◌≤◌, Bool, true, false, eqb, List, [], ◌∷◌, ◌++◌, length, decimal, sym, refl, ap, ◌∙◌, subst, ⊎_elim, append_assoc, add-zero, arith, length-append}
+use Rattle.std.proofs.Common.{◌≡◌, ℕ, zero, suc, ◌+◌, ◌<◌, ◌≤◌, Bool, true, false, eqb, List, [], ◌∷◌, ◌++◌, length, decimal, sym, refl, ap, ◌∙◌, ⊎_elim, append_assoc, arith, length-append}
 use Rattle.std.proofs.lemmas.Fmt.{decimal_nonempty}
 use Rattle.std.proofs.lemmas.List.{nil_from_length}
 use Rattle.std.proofs.lemmas.Bool.{cases_Bool, cases_eq, cases_lt, cond-true, cond-false, eq-eqb, ne_eqb}
 use Rattle.masks.specs.Sets.{holds, members}
-use Rattle.masks.proofs.SetLaws.{members_in, members_out}
+use Rattle.masks.proofs.SetLaws.{members_in}
 use Rattle.decimals.specs.Lists.{listed, item}
 
 listed_more : (ns : List ℕ) (v : ℕ) → 0 < length ns → listed (ns ++ v ∷ []) ≡ listed ns ++ item false v
@@ -39,29 +39,3 @@ listed_in mask v first h i f =
     let some : 0 < length (members mask v) = ⊎_elim (λ l. l) (λ z. absurd (ne (ap (λ l. length (listed l)) (nil_from_length (members mask v) (omega arith))))) (cases_lt 0 (length (members mask v))) in
     rw (f, ne_eqb (length (listed (members mask v))) 0 ne) (listed_more (members mask v) v some))
     (cases_eq (length (listed (members mask v))) 0)
-
--- nothing stands before a place exactly where it is the first
-pub at_start : (place at n : ℕ) → place ≡ at + n → eqb place at ≡ eqb n 0
-at_start place at n e =
-    ⊎_elim
-    (λ z. eq-eqb place at (omega arith) ∙ sym (eq-eqb n 0 z))
-    (λ nz. ne_eqb place at (λ s. nz (omega arith)) ∙ sym (ne_eqb n 0 nz))
-    (cases_eq n 0)
-
--- more members take no less room
-listed_grows : (mask n j : ℕ) → n + j ≤ 32 → length (listed (members mask n)) ≤ length (listed (members mask (n + j)))
-listed_grows mask n zero h = rw add-zero (omega arith)
-listed_grows mask n (suc j) h =
-    let e : n + suc j ≡ n + j + 1 = omega arith in
-    let before = listed_grows mask n j (omega arith) in
-    let old = listed (members mask (n + j)) in
-    rw e
-    (⊎_elim
-    (λ i. omega (arith, before, ap length (listed_in mask (n + j) (eqb (length old) 0) (omega arith) i refl), length-append old (item (eqb (length old) 0) (n + j))))
-    (λ o. omega (arith, before, ap (λ l. length (listed l)) (members_out mask (n + j) o)))
-    (cases_Bool (holds mask (n + j))))
-
-pub listed_within : (mask n : ℕ) → n ≤ 32 → length (listed (members mask n)) ≤ length (listed (members mask 32))
-listed_within mask n h =
-    let to : n + (32 - n) ≡ 32 = omega arith in
-    subst (λ k. length (listed (members mask n)) ≤ length (listed (members mask k))) to (listed_grows mask n (32 - n) (omega arith))

@@ -1,5 +1,5 @@
 -- Reading a number digit by digit.
-use Rattle.std.proofs.Common.{◌≡◌, ℕ, ◌+◌, ◌-◌, ◌*◌, ◌^◌, ◌<◌, ◌≤◌, Bool, true, false, ◌&&◌, eqb, leb, List, [], ◌∷◌, length, get_or, Some, None, decimal, sym, refl, ap, ◌∙◌, ⊎_elim, arith, rules}
+use Rattle.std.proofs.Common.{◌≡◌, ℕ, ◌+◌, ◌-◌, ◌*◌, ◌^◌, ◌<◌, ◌≤◌, Bool, true, false, ◌&&◌, eqb, leb, List, [], ◌∷◌, length, get_or, Some, None, decimal, sym, refl, ap, ◌∙◌, subst, Option, ⊎_elim, arith, rules}
 use Rattle.std.proofs.lemmas.Fmt.{length-decimal-le, digits_decimal, digits_value-decimal, decimal-digits_value, decimal_digit, decimal_nonempty, first_decimal}
 use Rattle.std.proofs.lemmas.Str.Parse.{IsNumeralModel, numerals_by_fold}
 use Rattle.std.proofs.lemmas.Bool.{le-leb, lt-leb, leb-true, leb-false, false≢true, both_ways, eq-eqb, ne_eqb, not-true, and_parts, and_cases, and_from, and_left, and_right, cases_Bool, cases_eq, cond-true, cond-false}
@@ -112,6 +112,10 @@ reads_decimal bs = record {
       let tests = and_from _ _ (decimal_unpadded n big) (and_from _ _ (digits_decimal own n big) (le-leb (value 0 (decimal n)) 4294967295 (omega arith))) in
       ap numeral e ∙ cond-true _ _ _ tests ∙ ap Some is;
 }
+
+-- what equals the numeral is exact
+pub exactly : (bs : List ℕ) (r : Option ℕ) → r ≡ numeral bs → ReadsDecimal bs r
+exactly bs r e = subst (ReadsDecimal bs) (sym e) (reads_decimal bs)
 
 -- a number below 100 has at most two digits
 pub two_digits : (n : ℕ) → n < 100 → length (decimal n) ≤ 2

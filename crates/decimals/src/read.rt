@@ -6,7 +6,7 @@ ghost use Rattle.decimals.specs.Digits.{one_more, digits_behind};
 fn with_digit(n: u32, b: u8) -> Option<u32>
     ensures { result ≡ one_more n b }
 {
-    if b < b'0' || b > b'9' {
+    if !b.is_ascii_digit() {
         return None;
     }
     n.checked_mul(10)?.checked_add(u32::from(b - b'0'))
@@ -16,6 +16,7 @@ fn with_digit(n: u32, b: u8) -> Option<u32>
 fn digits(text: &[u8]) -> Option<u32>
     ensures { result ≡ digits_behind 0 text.now }
 {
+    // kept: by `try_fold` the proof of `returns` did not close; the library has no law of it over a slice.
     let mut n = 0;
     for b in text {
         n = with_digit(n, *b)?;
@@ -24,6 +25,7 @@ fn digits(text: &[u8]) -> Option<u32>
 }
 
 // A decimal number without leading zeros, at most 4294967295.
+#[tactic(auto, using(crate::proofs::NumberLaws::exactly))]
 pub fn read_number(text: &[u8]) -> Option<u32>
     ensures value { result ≡ numeral text.now }
     ensures exact { ReadsDecimal text.now result }

@@ -4,9 +4,9 @@ use Rattle.std.proofs.lemmas.Bool.{cond_both}
 use Rattle.faults.specs.declared.fault.Fault.{Fault}
 use Rattle.decimals.specs.Numbers.{numeral}
 use Rattle.directions.specs.declared.direction.Direction.{Direction}
-use Rattle.linkfile.specs.Lines.{from, to, weight, end, Said, moved}
+use Rattle.linkfile.specs.Lines.{from, to, weight, end, same_key, Said, moved}
 use Rattle.linkfile.specs.Reading.{Standing, left, next_said, onward}
-use Rattle.directions.specs.Directions.{same_key, number_on, next_number, Reading, go_on, rest_read, begun, direction_read}
+use Rattle.directions.specs.Directions.{number_on, next_number, Reading, go_on, rest_read, begun, direction_read}
 use Rattle.directions.specs.Files.{Listing, list_on, listing, list_all}
 use Rattle.linkfile.proofs.LineLaws.{before_le, ended, told_ends}
 

@@ -9,10 +9,12 @@ use Rattle.faults.specs.declared.fault.Fault.{Fault}
 use Rattle.decimals.specs.Numbers.{numeral}
 use Rattle.decimals.proofs.NumberLaws.{reads_decimal}
 use Rattle.directions.specs.declared.direction.Direction.{Direction}
-use Rattle.linkfile.specs.Lines.{Key, routers, rule, from, to, weight, end, spelling, Said, bad, before, moved}
+use Rattle.linkfile.specs.declared.line.Key.{Key}
+use Rattle.linkfile.specs.declared.line.Key.TheVariants as k
+use Rattle.linkfile.specs.Lines.{rank, same_key, routers, rule, from, to, weight, end, spelling, Said, bad, before, moved}
 use Rattle.linkfile.specs.Reading.{Standing, left, done, next_said, onward}
 use Rattle.linkfile.proofs.LineLaws.{before_none, before_on, Lacks, lacks_append, ended, told_ends, told_bytes, line_told}
-use Rattle.directions.specs.Directions.{rank, same_key, number_on, and_then, next_value, next_number, Reading, go_on, rest_read, ending, one_direction, begun, direction_read}
+use Rattle.directions.specs.Directions.{number_on, and_then, next_value, next_number, Reading, go_on, rest_read, ending, one_direction, begun, direction_read}
 use Rattle.directions.specs.Files.{Listing, list_all}
 use Rattle.directions.specs.Written.{line_text, direction_text, links_text, FitsAt, Numbered}
 use Rattle.directions.proofs.FileLaws.{read_by, direction_less, list_all_some, list_all_none, list_all_err}
@@ -46,12 +48,12 @@ abbrev keys : List Key
 keys = routers ∷ rule ∷ from ∷ to ∷ weight ∷ end ∷ []
 
 key_at : (k : Key) → get_or keys (rank k) end ≡ k
-key_at routers = refl
-key_at rule = refl
-key_at from = refl
-key_at to = refl
-key_at weight = refl
-key_at end = refl
+key_at k.Routers = refl
+key_at k.Rule = refl
+key_at k.From = refl
+key_at k.To = refl
+key_at k.Weight = refl
+key_at k.End = refl
 
 same_key_true : (j k : Key) → same_key j k ≡ true → j ≡ k
 same_key_true j k e = sym (key_at j) ∙ ap (λ n. get_or keys n end) (eqb-true (rank j) (rank k) e) ∙ key_at k

@@ -1,26 +1,15 @@
 -- What the lines of a link file mean, in their order.
-use Rattle.std.specs.Prelude.{ℕ, Bool, cond, List, Some, None, Ok, Err, codes, Option, Result, ◌==◌}
+use Rattle.std.specs.Prelude.{ℕ, cond, List, Some, None, Ok, Err, codes, Option, Result}
 use Rattle.std.specs.Borrow.{Bor}
 use Rattle.std.specs.Str.{bytes_eq}
 use Rattle.faults.specs.declared.fault.Fault.{Fault}
 use Rattle.decimals.specs.Numbers.{numeral}
 use Rattle.directions.specs.declared.direction.Direction.{Direction}
-use Rattle.linkfile.specs.Lines.{Key, routers, rule, from, to, weight, end, Said, bad, Lies}
+use Rattle.linkfile.specs.declared.line.Key.{Key}
+use Rattle.linkfile.specs.Lines.{from, to, weight, end, same_key, Said, bad, Lies}
 use Rattle.linkfile.specs.Reading.{Standing, next_said, onward, done}
 
 -- ---- one line
--- the keys by their order in a file
-abbrev pub rank : Key → ℕ
-rank routers = 0
-rank rule = 1
-rank from = 2
-rank to = 3
-rank weight = 4
-rank end = 5
-
-abbrev pub same_key : Key → Key → Bool
-same_key j k = rank j == rank k
-
 -- a number, or the fault on its line
 abbrev pub number_on : ℕ → Option ℕ → Result ℕ Fault
 number_on line (Some n) = Ok n

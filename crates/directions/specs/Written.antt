@@ -1,7 +1,8 @@
 -- A link file as it is written.
 use Rattle.std.specs.Prelude.{◌≡◌, ℕ, ◌+◌, ◌≤◌, List, [], ◌∷◌, ◌++◌, codes, decimal}
 use Rattle.directions.specs.declared.direction.Direction.{Direction}
-use Rattle.linkfile.specs.Lines.{Key, from, to, weight, end, spelling}
+use Rattle.linkfile.specs.declared.line.Key.{Key}
+use Rattle.linkfile.specs.Lines.{from, to, weight, end, spelling}
 
 -- a line: its key, the byte `=`, its value and the byte 10
 abbrev pub line_text : Key → List ℕ → List ℕ

@@ -1,23 +1,31 @@
 // What the lines mean, read one after another.
 ghost use Rattle.std.specs.Prelude.{◌≡◌, ◌+◌};
 ghost use Rattle.decimals.specs.Numbers.{numeral};
-ghost use Rattle.linkfile.specs.Lines.{routers, rule, to, weight};
+ghost use Rattle.linkfile.specs.Lines.{routers, rule};
 ghost use Rattle.linkfile.specs.Reading.{stands, lent, onward};
 ghost use Rattle.directions.specs.Directions.{number_on, next_value, next_number, rest_read, ending, direction_read, texts, TextPart};
 
 use crate::direction::Direction;
 use decimals::read_number;
 use faults::Fault;
-use linkfile::{Line, Reader, bad_line, same};
+use linkfile::{Key, Line, Reader, bad_line, same};
 
 // A number, or the fault 7 on its line.
 fn number_on(value: &[u8], line: usize) -> Result<u32, Fault>
     ensures { result ≡ number_on line (numeral value.now) }
 {
-    match read_number(value) {
-        Some(n) => Ok(n),
-        None => Err(bad_line(line)),
-    }
+    read_number(value).ok_or(bad_line(line))
+}
+
+// The number on the next line, which must have this key.
+fn read_number_under(reader: &mut Reader, key: Key) -> Result<u32, Fault>
+    ensures answer { result ≡ next_number key (stands reader.old) }
+    ensures text { lent reader.new ≡ lent reader.old }
+    ensures reader { stands reader.new ≡ onward (stands reader.old) }
+{
+    let line = reader.next_line()?;
+    let value = line.value_under(key)?;
+    number_on(value, line.number())
 }
 
 // The count of routers, which the first line has.
@@ -26,10 +34,7 @@ pub fn read_routers(reader: &mut Reader) -> Result<u32, Fault>
     ensures text { lent reader.new ≡ lent reader.old }
     ensures reader { stands reader.new ≡ onward (stands reader.old) }
 {
-    match reader.next_line()? {
-        Line::Routers { value, line, .. } => number_on(value, line),
-        other => Err(bad_line(other.number())),
-    }
+    read_number_under(reader, Key::Routers)
 }
 
 // The name of the cost rule, which the second line has: a part of the text.
@@ -39,34 +44,7 @@ pub fn read_rule<'a>(reader: &mut Reader<'a>) -> Result<&'a [u8], Fault>
     ensures text { lent reader.new ≡ lent reader.old }
     ensures reader { stands reader.new ≡ onward (stands reader.old) }
 {
-    match reader.next_line()? {
-        Line::Rule { value, .. } => Ok(value),
-        other => Err(bad_line(other.number())),
-    }
-}
-
-// The router that a direction leads to.
-fn read_to(reader: &mut Reader) -> Result<u32, Fault>
-    ensures answer { result ≡ next_number to (stands reader.old) }
-    ensures text { lent reader.new ≡ lent reader.old }
-    ensures reader { stands reader.new ≡ onward (stands reader.old) }
-{
-    match reader.next_line()? {
-        Line::To { value, line, .. } => number_on(value, line),
-        other => Err(bad_line(other.number())),
-    }
-}
-
-// The number of a direction.
-fn read_weight(reader: &mut Reader) -> Result<u32, Fault>
-    ensures answer { result ≡ next_number weight (stands reader.old) }
-    ensures text { lent reader.new ≡ lent reader.old }
-    ensures reader { stands reader.new ≡ onward (stands reader.old) }
-{
-    match reader.next_line()? {
-        Line::Weight { value, line, .. } => number_on(value, line),
-        other => Err(bad_line(other.number())),
-    }
+    reader.next_line()?.value_under(Key::Rule)
 }
 
 // What belongs to a direction behind its `from`.
@@ -75,9 +53,9 @@ fn read_rest(reader: &mut Reader, from: u32) -> Result<Direction, Fault>
     ensures text { lent reader.new ≡ lent reader.old }
     ensures reader { stands reader.new ≡ (rest_read from (stands reader.old)).standing }
 {
-    let to = read_to(reader)?;
+    let to = read_number_under(reader, Key::To)?;
     let line = reader.next_number();
-    let number = read_weight(reader)?;
+    let number = read_number_under(reader, Key::Weight)?;
     Ok(Direction {
         from,
         to,

@@ -7,7 +7,7 @@ ghost use Rattle.std.proofs.Common.{rules};
 use costs::Cost;
 use waiting::Ranked;
 
-#[derive(Clone, Copy)]
+#[derive(Clone, Copy, Debug, PartialEq, Eq)]
 pub struct Entry<C> {
     pub cost: C,
     pub router: usize,

@@ -1,7 +1,8 @@
-ghost use Rattle.std.specs.Prelude.{◌≡◌};
-ghost use Rattle.faults.specs.Faults.{refusal_of, line_of};
+ghost use Rattle.std.specs.Prelude.{◌≡◌, Some};
+ghost use Rattle.faults.specs.Faults.{refusal_of, line_of, fault_text};
 
 use crate::refusal::Refusal;
+use std::fmt;
 
 // A refusal with the layer that refused and the line of the file that asked for it,
 // counted from 1; the line is 0 where no file is read.
@@ -25,9 +26,9 @@ impl Fault {
         ensures { result ≡ refusal_of self }
     {
         match self {
-            Fault::Reader { refusal, .. } => refusal,
-            Fault::Area { refusal, .. } => refusal,
-            Fault::Table { refusal, .. } => refusal,
+            Fault::Reader { refusal, .. }
+            | Fault::Table { refusal, .. }
+            | Fault::Area { refusal, .. } => refusal,
         }
     }
 
@@ -36,9 +37,19 @@ impl Fault {
         ensures { result ≡ line_of self }
     {
         match self {
-            Fault::Reader { line, .. } => line,
-            Fault::Area { line, .. } => line,
-            Fault::Table { line, .. } => line,
+            Fault::Reader { line, .. } | Fault::Area { line, .. } | Fault::Table { line, .. } =>
+                line,
         }
+    }
+}
+
+// The two lines that programs print of a fault: the number of its refusal, and its line.
+impl fmt::Display for Fault {
+    ghost output = { λ fault. Some (fault_text fault) };
+
+    fn fmt<W: fmt::Write>(&self, f: &mut fmt::Formatter<W>) -> fmt::Result {
+        let number = self.refusal().number();
+        let line = self.line();
+        write!(f, "refused={number}\nline={line}\n")
     }
 }

@@ -34,6 +34,7 @@ pub enum Refusal {
 
 impl Refusal {
     // The refusal's number.
+    // kept: a `From<Refusal> for u8` would do this same cast, and `number` stays beside it.
     pub fn number(self) -> u8
         ensures { result ≡ number_of self }
     {

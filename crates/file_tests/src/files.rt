@@ -1,5 +1,6 @@
 use faults::{Fault, Refusal};
 use std::process::Abort;
+use summary::RuleName::{HopsWidth, Sum};
 use summary::{RuleName, Summary, judge, summarize};
 
 // The file is granted, with this summary.
@@ -23,53 +24,41 @@ fn refused(rt: &impl Abort, text: &[u8], line: usize) {
 
 #[test]
 fn good_files(rt: HostRuntime) {
-    granted(
-        &rt,
-        b"routers=2\nrule=sum\nend=links\n",
-        2,
-        RuleName::Sum,
-        0,
-    );
+    granted(&rt, b"routers=2\nrule=sum\nend=links\n", 2, Sum, 0);
     granted(
         &rt,
         b"routers=32\nrule=hops-width\nend=links\n",
         32,
-        RuleName::HopsWidth,
+        HopsWidth,
         0,
     );
-    granted(
-        &rt,
-        b"routers=0\nrule=sum\nend=links\n",
-        0,
-        RuleName::Sum,
-        0,
-    );
+    granted(&rt, b"routers=0\nrule=sum\nend=links\n", 0, Sum, 0);
     granted(
         &rt,
         b"routers=4294967295\nrule=sum\nend=links\n",
         4294967295,
-        RuleName::Sum,
+        Sum,
         0,
     );
     granted(
         &rt,
         b"routers=2\nrule=sum\nfrom=0\nto=1\nweight=7\nend=links\n",
         2,
-        RuleName::Sum,
+        Sum,
         1,
     );
     granted(
         &rt,
         b"routers=2\nrule=sum\nfrom=0\nto=1\nweight=7\nfrom=1\nto=0\nweight=9\nend=links\n",
         2,
-        RuleName::Sum,
+        Sum,
         2,
     );
     granted(
         &rt,
         b"routers=2\nrule=sum\nfrom=9\nto=9\nweight=0\nfrom=9\nto=9\nweight=0\nend=links\n",
         2,
-        RuleName::Sum,
+        Sum,
         2,
     );
 }

@@ -3,26 +3,20 @@ use Rattle.std.proofs.Common.{◌≡◌, ℕ, ◌+◌, ◌-◌, ◌*◌, ◌/◌
 use mathlib.Core.Path.{fun_ext}
 use Rattle.std.proofs.lemmas.Nat.{mul-add-lt, div-mul-add, mod-mul-add}
 use Rattle.std.proofs.lemmas.List.{get_or_append_left, get_or-replicate, length-replicate}
-use Rattle.std.proofs.lemmas.Bool.{cases_eq, cases_Bool, cond_both, and_parts, and_from, and_right, le-leb, cond-true, cond-false, leb-true, ne_eqb, eq-eqb}
+use Rattle.std.proofs.lemmas.Bool.{cases_eq, cases_Bool, and_from, and_right, le-leb, cond-true, cond-false, ne_eqb, eq-eqb}
 use Rattle.faults.specs.declared.refusal.Refusal.{Refusal}
 use Rattle.faults.specs.declared.refusal.Refusal.TheVariants.{Full, NotKept}
+use Rattle.tables.proofs.Makings.{made_again}
+use Rattle.tables.specs.Makings.{made_by}
 use Rattle.tables.proofs.Pairs.{pair_true, pair_parts, pair_granted}
 use Rattle.tables.proofs.Sizes.{size_lt, not_both}
-use Rattle.grid.specs.Grids.{emptied, grid_count, cell_number, grid_links, grid_table, grid_empty}
+use Rattle.grid.specs.Grids.{emptied, grid_refusal, grid_count, cell_number, grid_links, grid_table, grid_empty, PlacedIn}
 use Rattle.faults.specs.Calls.{or_else, granted, in_table, done}
 use Rattle.tables.specs.Links.{no_links, is_pair, with_link, size}
 use Rattle.tables.specs.Tables.{pair_refusal, room_refusal, put_refusal, cut_refusal, RefusedShows, Changed, Put, Cut}
 
 pub count_square : (len n : ℕ) → grid_count len n * grid_count len n ≤ len
-count_square len n =
-    cond_both (leb 2 n && (leb n 32 && leb (n * n) len)) n 0 (λ x. x * x ≤ len)
-    (λ e. leb-true (n * n) len (and_parts (leb n 32) (leb (n * n) len) (and_parts (leb 2 n) (leb n 32 && leb (n * n) len) e).1).1)
-    (λ e. omega arith)
-
--- the cell of a pair lies in the grid
-pub place_lt : (len n a b : ℕ) → a < grid_count len n → b < grid_count len n → a * grid_count len n + b < len
-place_lt len n a b h k =
-    omega (arith, mul-add-lt a (grid_count len n) b (grid_count len n) h k, count_square len n)
+count_square len n = made_by n len (n * n) (λ x. x * x ≤ len) (λ h k l. l) (omega arith)
 
 -- different pairs have different cells
 place_apart : (n a b c d : ℕ) → b < n → d < n → a * n + b ≡ c * n + d → (a ≡ c) × (b ≡ d)
@@ -67,42 +61,45 @@ diagonal_none : (cells : List ℕ) (n a : ℕ) → grid_links cells n a a ≡ No
 diagonal_none cells n a =
     cond-false (is_pair n a a) _ _ (and_right (ltb a n) _ (and_right (ltb a n) _ (ap not (eq-eqb a a refl))))
 
-module _ (cells : List ℕ) (c n from to : ℕ) (e : n ≡ grid_count (length cells) c) (f : from < n) (t : to < n) (d : from ≡ to → ⊥) where
-  pub place : from * n + to < length cells
-  place = subst (λ k. from * k + to < length cells) (sym e) (place_lt (length cells) c from to (subst (λ k. from < k) e f) (subst (λ k. to < k) e t))
+module _ (cells : List ℕ) (c from to i : ℕ) (p : PlacedIn cells (grid_count (length cells) c) from to (Ok i)) where
+  abbrev n : ℕ
+  n = grid_count (length cells) c
 
-  pub pair_ok : pair_refusal (grid_table cells c).count from to ≡ None
-  pair_ok = pair_granted (grid_table cells c).count from to (subst (λ k. from < k) e f) (subst (λ k. to < k) e t) d
+  pair_ok : pair_refusal (grid_table cells c).count from to ≡ None
+  pair_ok = pair_granted n from to p.2 p.3 p.4
+
+  abbrev room_by : Option ℕ → Option Refusal
+  room_by o = cond (is_some o) None (cond (eqb (size (grid_table cells c).kept (grid_table cells c).count) (grid_table cells c).limit) (Some Full) None)
 
   -- a grid always has room
-  pub room_granted : room_refusal (grid_table cells c).count (grid_table cells c).limit (grid_table cells c).kept from to ≡ None
+  room_granted : room_refusal (grid_table cells c).count (grid_table cells c).limit (grid_table cells c).kept from to ≡ None
   room_granted = go ((grid_table cells c).kept from to) refl
     where
       go : (o : Option ℕ) → (grid_table cells c).kept from to ≡ o → room_refusal (grid_table cells c).count (grid_table cells c).limit (grid_table cells c).kept from to ≡ None
-      go (Some k) q = ap (λ o. cond (is_some o) None (cond (eqb (size (grid_table cells c).kept (grid_table cells c).count) (grid_table cells c).limit) (Some Full) None)) q
+      go (Some k) q = ap room_by q
       go None q =
-          let f' = subst (λ k. from < k) e f in
-          let t' = subst (λ k. to < k) e t in
-          let room = size_lt (grid_table cells c).kept (grid_table cells c).count (diagonal_none cells (grid_table cells c).count) from to f' t' d q in
-          ap (λ o. cond (is_some o) None (cond (eqb (size (grid_table cells c).kept (grid_table cells c).count) (grid_table cells c).limit) (Some Full) None)) q
-          ∙ cond-false (eqb (size (grid_table cells c).kept (grid_table cells c).count) (grid_table cells c).limit) _ _ (ne_eqb _ _ (omega arith))
+          let room = size_lt (grid_table cells c).kept (grid_table cells c).count (diagonal_none cells (grid_table cells c).count) from to p.2 p.3 p.4 q in
+          ap room_by q ∙ cond-false (eqb (size (grid_table cells c).kept (grid_table cells c).count) (grid_table cells c).limit) _ _ (ne_eqb _ _ (omega arith))
 
   -- a cell written is a call granted
-  pub grid_changes : (refusal : Option Refusal) (number : Option ℕ) (v : ℕ) → refusal ≡ None → cell_number v ≡ number → Changed refusal from to number (grid_table cells c) (grid_table (set cells (from * n + to) v) c)
+  grid_changes : (refusal : Option Refusal) (number : Option ℕ) (v : ℕ) → refusal ≡ None → cell_number v ≡ number → Changed refusal from to number (grid_table cells c) (grid_table (set cells i v) c)
   grid_changes refusal number v g q =
-      let counts : grid_count (length (set cells (from * n + to) v)) c ≡ grid_count (length cells) c = ap (λ k. grid_count k c) (length-set cells (from * n + to) v) in
-      let links : grid_links (set cells (from * n + to) v) (grid_count (length (set cells (from * n + to) v)) c) ≡ with_link (grid_links cells (grid_count (length cells) c)) from to number =
-      ap (grid_links (set cells (from * n + to) v)) (counts ∙ sym e) ∙ set_links cells n from to v f t d place ∙ ap₂ (λ k o. with_link (grid_links cells k) from to o) e q in
+      let counts : grid_count (length (set cells i v)) c ≡ n = ap (λ k. grid_count k c) (length-set cells i v) in
+      let links : grid_links (set cells i v) (grid_count (length (set cells i v)) c) ≡ with_link (grid_links cells n) from to number =
+      ap (grid_links (set cells i v)) counts
+      ∙ ap (λ j. grid_links (set cells j v) n) p.0
+      ∙ set_links cells n from to v p.2 p.3 p.4 (subst (λ j. j < length cells) p.0 p.1)
+      ∙ ap (with_link (grid_links cells n) from to) q in
       record {
         kept = links ∙ sym (ap (λ r. granted r (with_link (grid_table cells c).kept from to number) (grid_table cells c).kept) g);
-        shown = subst (λ r. RefusedShows r (grid_table cells c).shown (grid_table (set cells (from * n + to) v) c).shown) (sym g) tt;
+        shown = subst (λ r. RefusedShows r (grid_table cells c).shown (grid_table (set cells i v) c).shown) (sym g) tt;
         count = counts;
         greatest = refl;
         limit = ap (λ k. k * (k - 1)) counts;
         plain = refl;
       }
 
-  pub grid_put : (number : ℕ) → (number ≡ 0 → ⊥) → number ≤ 65535 → Put from to number (grid_table cells c) (Ok tt) (grid_table (set cells (from * n + to) number) c)
+  pub grid_put : (number : ℕ) → (number ≡ 0 → ⊥) → number ≤ 65535 → Put from to number (grid_table cells c) (Ok tt) (grid_table (set cells i number) c)
   grid_put number z m =
       let g : put_refusal (grid_table cells c) from to number ≡ None =
       ap₂ or_else pair_ok (ap₂ or_else (cond-true (not (eqb number 0) && leb number 65535) _ _ (and_from _ _ (ap not (ne_eqb number 0 z)) (le-leb number 65535 m))) room_granted) in
@@ -112,23 +109,17 @@ module _ (cells : List ℕ) (c n from to : ℕ) (e : n ≡ grid_count (length ce
             (cond-false (eqb number 0) _ _ (ne_eqb number 0 z));
       }
 
-  pub grid_cut : (get_or cells (from * n + to) 0 ≡ 0 → ⊥) → Cut from to (grid_table cells c) (Ok tt) (grid_table (set cells (from * n + to) 0) c)
+  pub grid_cut : (get_or cells i 0 ≡ 0 → ⊥) → Cut from to (grid_table cells c) (Ok tt) (grid_table (set cells i 0) c)
   grid_cut z =
-      let here : (grid_table cells c).kept from to ≡ Some (get_or cells (from * n + to) 0) =
-      ap (λ k. grid_links cells k from to) (sym e) ∙ cond-true (is_pair n from to) _ _ (pair_true n from to f t d) ∙ cond-false (eqb (get_or cells (from * n + to) 0) 0) _ _ (ne_eqb _ 0 z) in
+      let here : (grid_table cells c).kept from to ≡ Some (get_or cells i 0) =
+      cond-true (is_pair n from to) _ _ (pair_true n from to p.2 p.3 p.4)
+      ∙ ap (λ j. cell_number (get_or cells j 0)) (sym p.0)
+      ∙ cond-false (eqb (get_or cells i 0) 0) _ _ (ne_eqb _ 0 z) in
       let g : cut_refusal (grid_table cells c) from to ≡ None = ap₂ or_else pair_ok (ap (λ o. cond (is_some o) None (Some NotKept)) here) in
       record { answer = sym (ap (λ o. done (in_table o)) g); changed = grid_changes _ None 0 g refl }
 
 emptied_length : (cells : List ℕ) (n : ℕ) → n * n ≤ length cells → length (emptied cells n) ≡ length cells
 emptied_length cells n h = simp (length-append, length-replicate, length-drop) (omega arith)
-
--- a grid's count is a count that it can be made with
-count_again : (len c : ℕ) → grid_count len (grid_count len c) ≡ grid_count len c
-count_again len c =
-    ⊎_elim
-    (λ (e : (leb 2 c && (leb c 32 && leb (c * c) len)) ≡ true). ap (grid_count len) (cond-true _ c 0 e))
-    (λ (e : (leb 2 c && (leb c 32 && leb (c * c) len)) ≡ false). ap (grid_count len) (cond-false _ c 0 e) ∙ sym (cond-false _ c 0 e))
-    (cases_Bool (leb 2 c && (leb c 32 && leb (c * c) len)))
 
 emptied_links : (cells : List ℕ) (n : ℕ) → grid_links (emptied cells n) n ≡ no_links
 emptied_links cells n = fun_ext λ a. fun_ext λ b. go a b
@@ -147,6 +138,6 @@ emptied_links cells n = fun_ext λ a. fun_ext λ b. go a b
 pub grid_made : (cells : List ℕ) (c n : ℕ) → n ≡ grid_count (length cells) c → grid_table (emptied cells n) n ≡ grid_empty n
 grid_made cells c n e =
     let room : n * n ≤ length cells = subst (λ k. k * k ≤ length cells) (sym e) (count_square (length cells) c) in
-    let counts : grid_count (length (emptied cells n)) n ≡ n = ap (λ k. grid_count k n) (emptied_length cells n room) ∙ ap (grid_count (length cells)) e ∙ count_again (length cells) c ∙ sym e in
+    let counts : grid_count (length (emptied cells n)) n ≡ n = ap (λ k. grid_count k n) (emptied_length cells n room) ∙ ap (grid_count (length cells)) e ∙ made_again (grid_refusal (length cells)) c ∙ sym e in
     let links : grid_links (emptied cells n) (grid_count (length (emptied cells n)) n) ≡ no_links = ap (grid_links (emptied cells n)) counts ∙ emptied_links cells n in
     λ i. record { kept = links i; shown = links i; count = counts i; greatest = 65535; limit = counts i * (counts i - 1); plain = true }

@@ -1,12 +1,14 @@
 ghost use Rattle.std.specs.Prelude.{◌≡◌, length};
 ghost use Rattle.faults.specs.Calls.{in_table, done, answered_by};
-ghost use Rattle.grid.specs.Grids.{grid_refusal, emptied, grid_count, grid_empty, grid_table, grid_lawful, with_cell};
+ghost use Rattle.grid.specs.Grids.{grid_refusal, emptied, grid_count, grid_empty, grid_table, grid_lawful, with_cell, PlacedIn};
 ghost use Rattle.tables.specs.Tables.{Put, Cut, Unchanged};
 
 use faults::{Fault, Refusal};
-use tables::LinkTable;
+use tables::{LinkTable, check_making, check_pair};
 
 // A cell for each ordered pair of routers, at from * count + to; 0 means no link.
+// kept: no invariant ties the count to the cells, since an area on a table with a ghost field was not covered by
+// the borrow checker where it is held by value; `routers` makes the meaning total instead.
 #[derive(Drop)]
 pub struct Grid<'a> {
     cells: &'a mut [u16],
@@ -18,13 +20,7 @@ impl<'a> Grid<'a> {
     pub fn check(cells: usize, count: usize) -> Result<(), Fault>
         ensures { result ≡ done (in_table (grid_refusal cells count)) }
     {
-        if count < 2 || count > 32 {
-            return Err(Fault::of_table(Refusal::BadCount));
-        }
-        if cells < count * count {
-            return Err(Fault::of_table(Refusal::MemoryTooShort));
-        }
-        Ok(())
+        check_making(count, cells, count.saturating_mul(count))
     }
 
     // An empty grid; one of no routers where the check would refuse.
@@ -33,25 +29,30 @@ impl<'a> Grid<'a> {
         ensures table { grid_table result.cells.now result.count ≡ grid_empty (grid_count (length cells.old) count) }
         ensures same { result.cells.ghost_name ≡ cells.entry.ghost_name }
     {
-        let n = routers(cells.len(), count);
-        for i in 0..n * n {
-            cells[i] = 0;
-        }
-        Grid { cells, count: n }
+        let count = routers(cells.len(), count);
+        cells[..count * count].fill(0);
+        Grid { cells, count }
+    }
+
+    // The cell of a pair of two routers.
+    fn place(&self, from: usize, to: usize) -> Result<usize, Fault>
+        ensures { PlacedIn self.now.cells.now (grid_count (length self.now.cells.now) self.now.count) from to result }
+    {
+        let count = self.count();
+        check_pair(count, from, to).map_err(Fault::of_table)?;
+        Ok(from * count + to)
     }
 }
 
-// The routers of a grid with so many cells: none where it cannot be made.
+// The routers of a grid of so many cells: none where it cannot be made.
 fn routers(cells: usize, count: usize) -> usize
     ensures { result ≡ grid_count cells count }
 {
-    if count >= 2 && count <= 32 && count * count <= cells {
-        count
-    } else {
-        0
-    }
+    Grid::check(cells, count).map_or(0, |()| count)
 }
 
+// kept: clauses of an impl stand in place of the trait's, so put and cut, which say more, repeat those two; and that
+// the memory is the one that was lent is said at each call, since no meaning of a table speaks of it.
 impl<'a> LinkTable for Grid<'a> {
     ghost kept = { λ g. (grid_table g.cells.now g.count).kept };
 
@@ -76,8 +77,8 @@ impl<'a> LinkTable for Grid<'a> {
     }
 
     fn limit(&self) -> usize {
-        let n = self.count();
-        if n == 0 { 0 } else { n * (n - 1) }
+        let count = self.count();
+        count * count.saturating_sub(1)
     }
 
     fn is_plain(&self) -> bool {
@@ -85,12 +86,9 @@ impl<'a> LinkTable for Grid<'a> {
     }
 
     fn number(&self, from: usize, to: usize) -> Option<u32> {
-        let n = self.count();
-        if from >= n || to >= n || from == to {
-            return None;
-        }
-        let v = self.cells[from * n + to];
-        if v == 0 { None } else { Some(v as u32) }
+        let place = self.place(from, to).ok()?;
+        let number = u32::from(self.cells[place]);
+        (number != 0).then_some(number)
     }
 
     fn put(&mut self, from: usize, to: usize, number: u32) -> Result<(), Fault>
@@ -99,17 +97,11 @@ impl<'a> LinkTable for Grid<'a> {
         ensures cells { self.new.cells.now ≡ answered_by result (with_cell self.old.cells.now self.old.count from to number) self.old.cells.now }
         ensures same { self.new.cells.ghost_name ≡ self.old.cells.ghost_name }
     {
-        let n = self.count();
-        if from >= n || to >= n {
-            return Err(Fault::of_table(Refusal::NoSuchRouter));
-        }
-        if from == to {
-            return Err(Fault::of_table(Refusal::SameRouter));
-        }
-        if number == 0 || number > 65535 {
+        let place = self.place(from, to)?;
+        if number == 0 || number > self.greatest() {
             return Err(Fault::of_table(Refusal::NumberOutOfRange));
         }
-        self.cells[from * n + to] = number as u16;
+        self.cells[place] = number as u16;
         Ok(())
     }
 
@@ -119,17 +111,11 @@ impl<'a> LinkTable for Grid<'a> {
         ensures cells { self.new.cells.now ≡ answered_by result (with_cell self.old.cells.now self.old.count from to 0) self.old.cells.now }
         ensures same { self.new.cells.ghost_name ≡ self.old.cells.ghost_name }
     {
-        let n = self.count();
-        if from >= n || to >= n {
-            return Err(Fault::of_table(Refusal::NoSuchRouter));
-        }
-        if from == to {
-            return Err(Fault::of_table(Refusal::SameRouter));
-        }
-        if self.cells[from * n + to] == 0 {
+        let place = self.place(from, to)?;
+        if self.cells[place] == 0 {
             return Err(Fault::of_table(Refusal::NotKept));
         }
-        self.cells[from * n + to] = 0;
+        self.cells[place] = 0;
         Ok(())
     }
 }

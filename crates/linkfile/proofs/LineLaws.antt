@@ -1,30 +1,17 @@
 -- Laws of the lines.
-use Rattle.std.proofs.Common.{◌≡◌, ℕ, suc, ◌+◌, ◌-◌, ◌≤◌, eqb, List, [], ◌∷◌, ◌++◌, length, get_or, take, drop, Some, None, Ok, Err, Option, Result, sym, refl, ap, ◌∙◌, subst, ⊎_elim, append_assoc, add-one, arith, length-append, Bor}
-use Rattle.std.proofs.lemmas.List.{take_rest, take_at, drop_at}
-use Rattle.std.proofs.lemmas.Bool.{eq-eqb, ne_eqb, eqb-true, cases_Bool, cases_eq, cond-true, cond-false, cond_both}
+use Rattle.std.proofs.Common.{◌≡◌, ℕ, suc, ◌+◌, ◌-◌, ◌<◌, ◌≤◌, eqb, List, [], ◌∷◌, ◌++◌, length, get_or, take, drop, Some, None, Ok, Err, Option, Result, sym, refl, ap, ◌∙◌, subst, ⊎_elim, append_assoc, add-one, arith, length-append, length-drop, get_or-drop, true, false, Bor, cond, ltb, ltb-false, bytes_eq}
+use Rattle.std.specs.List.{position_or_len}
+use Rattle.std.specs.Option.{unwrap_or}
+use Rattle.std.proofs.lemmas.List.{take_rest, take_at, drop_at, take-append-drop, drop_more}
+use Rattle.std.proofs.lemmas.Slice.Eq.{bytes_eq-Decides}
+use Rattle.std.proofs.lemmas.List.Recursion.{is_position_or_len}
+use Rattle.std.proofs.lemmas.Bool.{both_ways, eq-eqb, ne_eqb, eqb-true, cases_Bool, cases_eq, cond-true, cond-false, cond_both}
 use Rattle.faults.specs.declared.fault.Fault.{Fault}
+use Rattle.linkfile.specs.declared.line.Key.{Key}
+use Rattle.linkfile.specs.declared.line.Key.TheVariants as k
 use Rattle.linkfile.specs.declared.line.Line.{Line}
 use Rattle.linkfile.specs.declared.line.Line.TheVariants.{Routers, Rule, From, To, Weight, End}
-use Rattle.linkfile.specs.Lines.{Key, routers, rule, from, to, weight, end, spelling, Said, bad, valued, keyed, behind, apart, before, told, moved, counted, Lies, Lie, Parts, AnswerParts, seen}
-
--- the bytes of the key stand at the front, from place n of the line on
-abbrev pub Front : List ℕ → ℕ → List ℕ → Type 0
-Front [] n body = Unit {0}
-Front (k ∷ key) n body = (get_or body n 0 ≡ k) × Front key (suc n) body
-
-front_tail : (key : List ℕ) (n b : ℕ) (body : List ℕ) → Front key (suc n) (b ∷ body) → Front key n body
-front_tail [] n b body f = tt
-front_tail (k ∷ key) n b body f = (f.0, front_tail key (suc n) b body f.1)
-
-behind_front : (key body : List ℕ) → length key ≤ length body → Front key 0 body → behind key body ≡ Some (drop (length key) body)
-behind_front [] body l f = refl
-behind_front (k ∷ key) [] l f = absurd (omega arith)
-behind_front (k ∷ key) (b ∷ body) l f = rw (eq-eqb b k f.0, behind) (behind_front key body (omega arith) (front_tail key 0 b body f.1))
-
--- a slice pattern that names the bytes of a key sees the value behind them
-pub seen_behind : (key : List ℕ) (body value : Bor (List ℕ)) → length key ≤ length body.now → Front key 0 body.now → value.now ≡ take (length body.now - length key) (drop (length key) body.now) → value.ref_ptr.0 ≡ body.ref_ptr.0 → value.ref_ptr.1 ≡ body.ref_ptr.1 + length key → seen body (length key) (Some value) (behind key body.now)
-seen_behind key body value l f v b o =
-    (ap Some (v ∙ take_rest body.now (length key)) ∙ sym (behind_front key body.now l f), record { block = b; offset = o })
+use Rattle.linkfile.specs.Lines.{routers, rule, from, to, weight, end, spelling, Said, bad, valued, keyed, behind, apart, before, told, moved, counted, Lies, Lie, Parts, AnswerParts}
 
 -- ---- the first byte b
 pub before_here : (b x : ℕ) (text : List ℕ) → x ≡ b → before b (x ∷ text) ≡ 0
@@ -43,6 +30,21 @@ pub before_le : (b : ℕ) (text : List ℕ) → before b text ≤ length text
 unfolding before
 before_le b [] = omega arith
 before_le b (x ∷ text) = let ih = before_le b text in cond_both (eqb x b) 0 (suc (before b text)) (λ n. n ≤ suc (length text)) (λ _. omega arith) (λ _. omega arith)
+
+before_position : (b : ℕ) (text : List ℕ) → before b text ≡ position_or_len (λ x. eqb x b) text
+unfolding before
+before_position b = is_position_or_len (before b) (λ x. eqb x b) refl (λ x xs. ap (cond (eqb x b) 0) (omega arith))
+
+-- the place that a search for the byte tells, or the length
+pub found : (b : ℕ) (text : List ℕ) (place : Option ℕ) → place ≡ cond (ltb (position_or_len (λ x. eqb x b) text) (length text)) (Some (position_or_len (λ x. eqb x b) text)) None → unwrap_or place (length text) ≡ before b text
+found b text place e =
+    let at = position_or_len (λ x. eqb x b) text in
+    let is = before_position b text in
+    ap (λ p. unwrap_or p (length text)) e
+    ∙ ⊎_elim
+    (λ h. ap (λ p. unwrap_or p (length text)) (cond-true (ltb at (length text)) _ _ h) ∙ sym is)
+    (λ h. ap (λ p. unwrap_or p (length text)) (cond-false (ltb at (length text)) _ _ h) ∙ omega (arith, is, before_le b text, ltb-false))
+    (cases_Bool (ltb at (length text)))
 
 -- ---- the first line of a text
 module _ (text : List ℕ) (line : ℕ) where
@@ -80,6 +82,66 @@ behind_is (k ∷ key) (b ∷ body) value e =
     (λ h. λ i. eqb-true b k h i ∷ behind_is key body value (sym (cond-true (eqb b k) _ _ h) ∙ e) i)
     (λ h. let z : ◌≡◌ {A = Option (List ℕ)} (Some value) None = sym e ∙ cond-false (eqb b k) _ _ h in let y : ◌≡◌ {A = ℕ} 0 1 = cc in absurd (omega arith))
     (cases_Bool (eqb b k))
+
+-- ---- a line taken apart at its first byte `=`
+none_behind : (k : Key) (body : List ℕ) → ((v : List ℕ) → body ≡ spelling k ++ 61 ∷ v → ⊥) → (o : Option (List ℕ)) → behind (spelling k ++ 61 ∷ []) body ≡ o → behind (spelling k ++ 61 ∷ []) body ≡ None
+none_behind k body h (Some v) e = absurd (h v (behind_is (spelling k ++ 61 ∷ []) body v e ∙ append_assoc (spelling k) (61 ∷ []) v))
+none_behind k body h None e = e
+
+keyed_none : (ks : List Key) (body : List ℕ) (line : ℕ) → ((k : Key) (v : List ℕ) → body ≡ spelling k ++ 61 ∷ v → ⊥) → keyed ks body line ≡ Err (bad line)
+keyed_none [] body line h = refl
+keyed_none (k ∷ ks) body line h = ap (λ o. valued k line o (keyed ks body line)) (none_behind k body (h k) _ refl) ∙ keyed_none ks body line h
+
+-- what begins with none of the keys and the byte `=`
+pub apart_none : (body : List ℕ) (line : ℕ) → ((k : Key) (v : List ℕ) → body ≡ spelling k ++ 61 ∷ v → ⊥) → apart body line ≡ Err (bad line)
+apart_none body line h = keyed_none (routers ∷ rule ∷ from ∷ to ∷ weight ∷ end ∷ []) body line h
+
+-- where a line begins with a key and the byte `=`
+pub record Front (k : Key) (body : List ℕ) : Type 0 where
+  pub name : take (before 61 body) body ≡ spelling k
+  pub there : get_or body (before 61 body) 0 ≡ 61
+  pub inside : before 61 body < length body
+
+front_at : (k : Key) (v : List ℕ) → Front k (spelling k ++ 61 ∷ v)
+unfolding before
+front_at k.Routers v = record { name = refl; there = refl; inside = omega arith }
+front_at k.Rule v = record { name = refl; there = refl; inside = omega arith }
+front_at k.From v = record { name = refl; there = refl; inside = omega arith }
+front_at k.To v = record { name = refl; there = refl; inside = omega arith }
+front_at k.Weight v = record { name = refl; there = refl; inside = omega arith }
+front_at k.End v = record { name = refl; there = refl; inside = omega arith }
+
+pub front : (k : Key) (v body : List ℕ) → body ≡ spelling k ++ 61 ∷ v → Front k body
+front k v body e = subst (Front k) (sym e) (front_at k v)
+
+-- a line is what stands before a byte `=`, that byte, and the rest
+pub parted : (body rest : List ℕ) (at : ℕ) → rest ≡ take (length body - at) (drop at body) → 0 < length rest → get_or rest 0 0 ≡ 61 → body ≡ take at body ++ 61 ∷ take (length rest - 1) (drop 1 rest)
+parted body rest at e some is =
+    sym (take-append-drop at body)
+    ∙ ap (λ t. take at body ++ t) (sym (e ∙ take_rest body at) ∙ drop_more rest 0 0 some ∙ (λ i. is i ∷ sym (take_rest rest 1) i))
+
+pub begins : (body rest : List ℕ) (at : ℕ) → rest ≡ take (length body - at) (drop at body) → (length rest ≡ length body - at) × (get_or rest 0 0 ≡ get_or body at 0)
+begins body rest at e =
+    let is = e ∙ take_rest body at in
+    (ap length is ∙ length-drop at body, ap (λ l. get_or l 0 0) is ∙ get_or-drop at body 0 0 ∙ ap (λ i. get_or body i 0) (omega arith))
+
+apart_line : (k : Key) (value : List ℕ) (line : ℕ) → apart (spelling k ++ 61 ∷ value) line ≡ Ok (record { kind = k; key = spelling k; value = value; line = line })
+apart_line k.Routers value line = refl
+apart_line k.Rule value line = refl
+apart_line k.From value line = refl
+apart_line k.To value line = refl
+apart_line k.Weight value line = refl
+apart_line k.End value line = refl
+
+-- what stands before the first `=` is none of the keys
+pub apart_other : (body : List ℕ) (line : ℕ) → ((k : Key) → bytes_eq (take (before 61 body) body) (spelling k) ≡ false) → apart body line ≡ Err (bad line)
+apart_other body line h = apart_none body line (λ k v e. both_ways (bytes_eq (take (before 61 body) body) (spelling k)) (h k) ((bytes_eq-Decides _ _).1 (front k v body e).name))
+
+pub apart_named : (k : Key) (body key value : List ℕ) (line : ℕ) → bytes_eq key (spelling k) ≡ true → body ≡ key ++ 61 ∷ value → Ok (record { kind = k; key = key; value = value; line = line }) ≡ apart body line
+apart_named k body key value line h e =
+    let is = (bytes_eq-Decides key (spelling k)).0 h in
+    (λ i. Ok (record { kind = k; key = is i; value = value; line = line }))
+    ∙ sym (ap (λ b. apart b line) (e ∙ ap (λ t. t ++ 61 ∷ value) is) ∙ apart_line k value line)
 
 pub record Spelt (body : List ℕ) (line : ℕ) (s : Said) : Type 0 where
   pub bytes : body ≡ spelling s.kind ++ 61 ∷ s.value
@@ -148,20 +210,12 @@ told_bytes text line s e =
 -- a line that stands there is told
 lacks_key : (k : Key) → Lacks 10 (spelling k ++ 61 ∷ [])
 unfolding before
-lacks_key routers = refl
-lacks_key rule = refl
-lacks_key from = refl
-lacks_key to = refl
-lacks_key weight = refl
-lacks_key end = refl
-
-apart_line : (k : Key) (value : List ℕ) (line : ℕ) → apart (spelling k ++ 61 ∷ value) line ≡ Ok (record { kind = k; key = spelling k; value = value; line = line })
-apart_line routers value line = refl
-apart_line rule value line = refl
-apart_line from value line = refl
-apart_line to value line = refl
-apart_line weight value line = refl
-apart_line end value line = refl
+lacks_key k.Routers = refl
+lacks_key k.Rule = refl
+lacks_key k.From = refl
+lacks_key k.To = refl
+lacks_key k.Weight = refl
+lacks_key k.End = refl
 
 told_body : (body more : List ℕ) (line : ℕ) → Lacks 10 body → (told (body ++ 10 ∷ more) line ≡ apart body line) × (drop (moved (body ++ 10 ∷ more)) (body ++ 10 ∷ more) ≡ more)
 told_body body more line h =

@@ -1,28 +1,52 @@
 -- The lines of a link file: a line is its key, the byte `=`, its value and the byte 10.
-use Rattle.std.specs.Prelude.{◌≡◌, ℕ, suc, ◌+◌, cond, List, [], ◌∷◌, ◌++◌, length, take, Some, None, Ok, Err, codes, Option, Result, ◌==◌}
+use Rattle.std.specs.Prelude.{◌≡◌, ℕ, Bool, suc, ◌+◌, cond, List, [], ◌∷◌, ◌++◌, length, take, Some, None, Ok, Err, codes, Option, Result, ◌==◌}
 use Rattle.std.specs.Borrow.{Bor}
 use Rattle.faults.specs.declared.fault.Fault.{Fault}
 use Rattle.faults.specs.declared.fault.Fault.TheVariants.{Reader}
 use Rattle.faults.specs.declared.refusal.Refusal.TheVariants.{BadLine}
+use Rattle.linkfile.specs.declared.line.Key.{Key}
+use Rattle.linkfile.specs.declared.line.Key.TheVariants as k
 use Rattle.linkfile.specs.declared.line.Line.{Line}
 use Rattle.linkfile.specs.declared.line.Line.TheVariants.{Routers, Rule, From, To, Weight, End}
 
 -- the keys
-pub data Key : Type 0 where
-  routers : Key
-  rule : Key
-  from : Key
-  to : Key
-  weight : Key
-  end : Key
+abbrev pub routers : Key
+routers = k.Routers
+
+abbrev pub rule : Key
+rule = k.Rule
+
+abbrev pub from : Key
+from = k.From
+
+abbrev pub to : Key
+to = k.To
+
+abbrev pub weight : Key
+weight = k.Weight
+
+abbrev pub end : Key
+end = k.End
 
 abbrev pub spelling : Key → List ℕ
-spelling routers = codes "routers"
-spelling rule = codes "rule"
-spelling from = codes "from"
-spelling to = codes "to"
-spelling weight = codes "weight"
-spelling end = codes "end"
+spelling k.Routers = codes "routers"
+spelling k.Rule = codes "rule"
+spelling k.From = codes "from"
+spelling k.To = codes "to"
+spelling k.Weight = codes "weight"
+spelling k.End = codes "end"
+
+-- the keys by their order in a file
+abbrev pub rank : Key → ℕ
+rank k.Routers = 0
+rank k.Rule = 1
+rank k.From = 2
+rank k.To = 3
+rank k.Weight = 4
+rank k.End = 5
+
+abbrev pub same_key : Key → Key → Bool
+same_key j k = rank j == rank k
 
 -- what a line says: which key, the bytes of key and value, and the line's number, from 1
 pub record Said : Type 0 where
@@ -46,6 +70,19 @@ answered (Err fault) = Err fault
 -- the fault of a line that breaks the file's form
 abbrev pub bad : ℕ → Fault
 bad line = Reader BadLine line
+
+-- the value, a part of the lent text
+abbrev pub value_of : Line → Bor (List ℕ)
+value_of (Routers key value line) = value
+value_of (Rule key value line) = value
+value_of (From key value line) = value
+value_of (To key value line) = value
+value_of (Weight key value line) = value
+value_of (End key value line) = value
+
+-- the value under this key; a line with another key is out of place
+abbrev pub held : Key → Line → Result (Bor (List ℕ)) Fault
+held k l = cond (same_key k (said l).kind) (Ok (value_of l)) (Err (bad (said l).line))
 
 -- what stands behind these bytes, where a line begins with them
 abbrev pub behind : List ℕ → List ℕ → Option (List ℕ)
@@ -103,8 +140,3 @@ Parts text place (End key value line) = Lie text place key value
 abbrev pub AnswerParts : Bor (List ℕ) → ℕ → Result Line Fault → Type 0
 AnswerParts text place (Ok line) = Parts text place line
 AnswerParts text place (Err fault) = Unit {0}
-
--- an answer that holds these bytes, from this place of the text on
-abbrev pub seen : Bor (List ℕ) → ℕ → Option (Bor (List ℕ)) → Option (List ℕ) → Type 0
-seen text place (Some part) bytes = (Some part.now ≡ bytes) × Lies text part place
-seen text place None bytes = None ≡ bytes

@@ -8,5 +8,5 @@ pub mod reader;
 pub mod standing;
 
 pub use keys::{bad_line, same};
-pub use line::Line;
+pub use line::{Key, Line};
 pub use reader::Reader;

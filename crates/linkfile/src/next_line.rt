@@ -1,4 +1,4 @@
-ghost use Rattle.std.specs.Prelude.{◌≡◌};
+ghost use Rattle.std.specs.Prelude.{◌≡◌, ◌≤◌, length};
 ghost use Rattle.linkfile.specs.Lines.{before, answered, AnswerParts};
 ghost use Rattle.linkfile.specs.Reading.{stands, lent, start, next_said, onward};
 
@@ -8,15 +8,11 @@ use crate::reader::Reader;
 use faults::Fault;
 
 // The place of the first byte `b` in the text, or the text's length.
-fn find(text: &[u8], b: u8) -> usize
-    ensures { result ≡ before b text.now }
+pub(crate) fn find(text: &[u8], b: u8) -> usize
+    ensures place { result ≡ before b text.now }
+    ensures bound { result ≤ length text.now }
 {
-    for (place, byte) in text.iter().enumerate() {
-        if *byte == b {
-            return place;
-        }
-    }
-    text.len()
+    text.iter().position(|x| *x == b).unwrap_or(text.len())
 }
 
 impl<'a> Reader<'a> {
@@ -47,8 +43,8 @@ impl<'a> Reader<'a> {
         if len == rest.len() {
             return Err(bad_line(line));
         }
-        self.at = self.at + len + 1;
+        self.at += len + 1;
         self.line = line + 1;
-        take_apart(&rest[0..len], line)
+        take_apart(&rest[..len], line)
     }
 }

@@ -1,26 +1,15 @@
 -- Sets of routers as masks: which routers a mask holds, and its members.
-use Rattle.std.proofs.Common.{◌≡◌, ℕ, zero, suc, ◌+◌, ◌-◌, ◌*◌, ◌/◌, ◌%◌, ◌^◌, ◌<◌, ◌≤◌, Bool, true, false, cond, not, ◌&&◌, ◌||◌, eqb, ltb, [], ◌∷◌, ◌++◌, sym, refl, ap, ◌∙◌, subst, ap₂, ⊎_elim, lt_of_lt_of_le, add-zero, mul_assoc, add-mul, one-mul, div-add-mod', zero-mul, add-one, arith, pow_pos, pow_mono, pow-add}
+use Rattle.std.proofs.Common.{◌≡◌, ℕ, zero, suc, ◌+◌, ◌-◌, ◌%◌, ◌^◌, ◌<◌, ◌≤◌, min, Bool, true, false, cond, not, ◌&&◌, ◌||◌, eqb, ltb, [], ◌∷◌, ◌++◌, sym, refl, ap, ◌∙◌, subst, ap₂, ⊎_elim, lt_of_lt_of_le, add-zero, add-one, arith, pow_pos, pow_mono, w32}
 use mathlib.Core.List.Memᴰ
 use mathlib.Core.List.{Memᴰ}
-use native.Mathlib.Nat.{add-mul-div_right, add-mul-mod_self_right, add-div_right, div-eq_of_lt, zero-div}
+use native.Mathlib.Nat.{add-div_right, div-eq_of_lt}
 use lib.Bits.{bit_and}
-use Rattle.std.proofs.lemmas.Nat.{and_shr, and_mod, field_of, mod_below, div_below, div-mul-add}
+use Rattle.std.specs.Int.{bit_at}
+use Rattle.std.proofs.Math.Nat.{pow-succ'}
+use Rattle.std.proofs.lemmas.Nat.Bits.{bit_at_and, bit_at_not, bit_at-zero, bit_at_above, bit_at_cat_low, bit_at-lt, same_from_bits_below}
+use Rattle.std.proofs.lemmas.Bool.Decides.{nat_tests}
 use Rattle.std.proofs.lemmas.Bool.{and_from, both_ways, cases_eq, cases_order, eq-eqb, ne_eqb, lt-ltb, le-ltb}
 use Rattle.masks.specs.Sets.{holds, members, mask, including, besides}
-
--- a higher bit changes no lower one
-lower_bit : (m n v : ℕ) → v < n → (m + 2 ^ n) / 2 ^ v % 2 ≡ m / 2 ^ v % 2
-lower_bit m n v h =
-    let j = n - suc v in
-    let s : n ≡ (j + 1) + v = omega arith in
-    let e : 2 ^ n ≡ (2 ^ j * 2) * 2 ^ v = ap (λ k. 2 ^ k) s ∙ pow-add 2 (j + 1) v ∙ ap (λ a. a * 2 ^ v) (pow-add 2 j 1) in
-    ap (λ k. (m + k) / 2 ^ v % 2) e ∙ ap (λ k. k % 2) (add-mul-div_right m (2 ^ j * 2) (pow_pos v)) ∙ add-mul-mod_self_right (m / 2 ^ v) (2 ^ j) 2
-
-double : (n : ℕ) → 2 ^ suc n ≡ 2 ^ n + 2 ^ n
-double n = let e = ap (λ k. 2 ^ k) (the_suc n) ∙ pow-add 2 n 1 in omega arith
-  where
-    the_suc : (n : ℕ) → suc n ≡ n + 1
-    the_suc n = omega arith
 
 bit_most : (t : Bool) (a : ℕ) → cond t a 0 ≤ a
 bit_most true a = omega arith
@@ -30,12 +19,12 @@ bit_most false a = omega arith
 pub mask_fits : (n : ℕ) (p : ℕ → Bool) → mask n p < 2 ^ n
 unfolding mask
 mask_fits zero p = omega arith
-mask_fits (suc n) p = omega (arith, mask_fits n p, bit_most (p n) (2 ^ n), double n)
+mask_fits (suc n) p = omega (arith, mask_fits n p, bit_most (p n) (2 ^ n), pow-succ' 2 n)
 
 -- it holds the numbers below n that pass the test
 pub mask_holds : (n : ℕ) (p : ℕ → Bool) (v : ℕ) → holds (mask n p) v ≡ (ltb v n && p v)
 unfolding mask
-mask_holds zero p v = ap (λ k. eqb (k % 2) 1) (zero-div (2 ^ v)) ∙ sym (ap (λ t. t && p v) (le-ltb v 0 (omega arith)))
+mask_holds zero p v = ap (λ k. eqb k 1) (bit_at-zero v) ∙ sym (ap (λ t. t && p v) (le-ltb v 0 (omega arith)))
 mask_holds (suc n) p v =
     ⊎_elim (λ (e : v ≡ n). subst (λ z. holds (mask n p + cond (p n) (2 ^ n) 0) z ≡ (ltb z (suc n) && p z)) (sym e) (same (p n) refl))
     (⊎_elim (λ l. under l (p n) ∙ mask_holds n p v ∙ ap (λ t. t && p v) (lt-ltb v n l ∙ sym (lt-ltb v (suc n) (omega arith)))) (λ l. over l))
@@ -49,18 +38,17 @@ mask_holds (suc n) p v =
         ap (λ k. eqb (k % 2) 1) (add-div_right (mask n p) (pow_pos n) ∙ ap (λ k. k + 1) (div-eq_of_lt small))
         ∙ sym (ap₂ (λ s t. s && t) (lt-ltb n (suc n) (omega arith)) e)
     same false e =
-        ap (λ k. eqb (k / 2 ^ n % 2) 1) (add-zero (mask n p)) ∙ ap (λ k. eqb (k % 2) 1) (div-eq_of_lt small)
+        ap (λ k. eqb k 1) (ap (λ k. bit_at k n) (add-zero (mask n p)) ∙ bit_at_above (mask n p) n n small (omega arith))
         ∙ sym (ap₂ (λ s t. s && t) (lt-ltb n (suc n) (omega arith)) e)
 
     under : v < n → (t : Bool) → holds (mask n p + cond t (2 ^ n) 0) v ≡ holds (mask n p) v
-    under l true = ap (λ k. eqb k 1) (lower_bit (mask n p) n v l)
+    under l true = ap (λ k. eqb k 1) (ap (λ k. bit_at k v) (omega arith) ∙ bit_at_cat_low 1 n (mask n p) v l)
     under l false = ap (λ k. holds k v) (add-zero (mask n p))
 
     over : n < v → holds (mask n p + cond (p n) (2 ^ n) 0) v ≡ (ltb v (suc n) && p v)
     over l =
-        let fits : mask n p + cond (p n) (2 ^ n) 0 < 2 ^ suc n = omega (arith, small, bit_most (p n) (2 ^ n), double n) in
-        let far : suc n ≤ v = l in
-        ap (λ k. eqb (k % 2) 1) (div-eq_of_lt (lt_of_lt_of_le fits (pow_mono far))) ∙ sym (ap (λ t. t && p v) (le-ltb v (suc n) l))
+        let fits : mask n p + cond (p n) (2 ^ n) 0 < 2 ^ suc n = omega (arith, small, bit_most (p n) (2 ^ n), pow-succ' 2 n) in
+        ap (λ k. eqb k 1) (bit_at_above _ (suc n) v fits l) ∙ sym (ap (λ t. t && p v) (le-ltb v (suc n) l))
 
 -- a mask has the members that it holds
 pub members_held : (m n x : ℕ) → Memᴰ x (members m n) → holds m x ≡ true
@@ -90,41 +78,19 @@ unfolding mask
 mask_same zero p q h = refl
 mask_same (suc n) p q h = ap₂ (λ m t. m + cond t (2 ^ n) 0) (mask_same n p q (λ v l. h v (omega arith))) (h n (omega arith))
 
--- lower bits are those of the remainder
-low_bits : (m n v : ℕ) → v < n → holds m v ≡ holds (m % 2 ^ n) v
-low_bits m n v l =
-    let s : n ≡ (n - v) + v = omega arith in
-    let whole : m % 2 ^ n / 2 ^ v ≡ m / 2 ^ v % 2 ^ (n - v) = ap (λ k. m % 2 ^ k / 2 ^ v) s ∙ field_of m (n - v) v in
-    let t : n - v ≡ (n - v - 1) + 1 = omega arith in
-    let high = m / 2 ^ v in
-    let even : 2 ^ (n - v) ≡ 2 ^ (n - v - 1) * 2 = ap (λ k. 2 ^ k) t ∙ pow-add 2 (n - v - 1) 1 in
-    let split = div-add-mod' high (2 ^ (n - v)) in
-    let same : high % 2 ^ (n - v) % 2 ≡ high % 2 =
-    sym (add-mul-mod_self_right (high % 2 ^ (n - v)) (high / 2 ^ (n - v) * 2 ^ (n - v - 1)) 2)
-    ∙ ap (λ k. k % 2) (regroup (high % 2 ^ (n - v)) (high / 2 ^ (n - v)) (2 ^ (n - v - 1)) ∙ ap (λ k. high % 2 ^ (n - v) + high / 2 ^ (n - v) * k) (sym even) ∙ omega (arith, split)) in
-    ap (λ k. eqb k 1) (sym same) ∙ ap (λ k. eqb (k % 2) 1) (sym whole)
-  where
-    regroup : (r a b : ℕ) → r + a * b * 2 ≡ r + a * (b * 2)
-    regroup r a b = ap (λ k. r + k) (mul_assoc a b 2)
-
--- a number is the set of its bits
-pub mask_bits : (n m : ℕ) → m < 2 ^ n → mask n (holds m) ≡ m
-unfolding mask
-mask_bits zero m h = omega arith
-mask_bits (suc n) m h =
-    let low = mask_same n (holds m) (holds (m % 2 ^ n)) (low_bits m n) ∙ mask_bits n (m % 2 ^ n) (mod_below m (2 ^ n) (pow_pos n)) in
-    let top = m / 2 ^ n in
-    let bit : top < 2 = div_below m (2 ^ n) 2 (pow_pos n) (omega (arith, double n)) in
-    ap₂ (λ a b. a + b) low (one top bit) ∙ omega (arith, div-add-mod' m (2 ^ n))
-  where
-    one : (t : ℕ) → t < 2 → cond (eqb (t % 2) 1) (2 ^ n) 0 ≡ t * 2 ^ n
-    one zero l = sym (zero-mul (2 ^ n))
-    one (suc zero) l = sym (one-mul (2 ^ n))
-    one (suc (suc t)) l = absurd (omega arith)
+-- bits that pass the same test are one
+same_bit : (x y : ℕ) → x < 2 → y < 2 → eqb x 1 ≡ eqb y 1 → x ≡ y
+same_bit x y h k e = grind (arith, nat_tests)
 
 -- a set of n bits by its members
 pub same_set : (n m : ℕ) (p : ℕ → Bool) → m < 2 ^ n → ((v : ℕ) → v < n → holds m v ≡ p v) → m ≡ mask n p
-same_set n m p fits h = sym (mask_bits n m fits) ∙ mask_same n (holds m) p h
+same_set n m p fits h =
+    same_from_bits_below n m (mask n p) fits (mask_fits n p)
+    (λ v l. same_bit _ _ (bit_at-lt m v) (bit_at-lt (mask n p) v) (h v l ∙ sym (mask_holds n p v ∙ ap (λ t. t && p v) (lt-ltb v n l))))
+
+-- a number is the set of its bits
+pub mask_bits : (n m : ℕ) → m < 2 ^ n → mask n (holds m) ≡ m
+mask_bits n m h = sym (same_set n m (holds m) h (λ v l. refl))
 
 -- ---- sets that grow by one number at a time
 -- a set of numbers below 32 is a mask of 32 bits
@@ -168,48 +134,14 @@ mask_besides n p q h =
     by false a b = refl
 
 -- ---- the set without another
-and_bits : (x y : ℕ) → x < 2 → y < 2 → eqb (bit_and x y) 1 ≡ (eqb x 1 && eqb y 1)
-and_bits zero zero h k = refl
-and_bits zero (suc zero) h k = refl
-and_bits (suc zero) zero h k = refl
-and_bits (suc zero) (suc zero) h k = refl
-and_bits (suc (suc x)) zero h k = absurd (omega arith)
-and_bits (suc (suc x)) (suc y) h k = absurd (omega arith)
-and_bits zero (suc (suc y)) h k = absurd (omega arith)
-and_bits (suc zero) (suc (suc y)) h k = absurd (omega arith)
+both_bits : (x y : ℕ) → x < 2 → y < 2 → eqb (min x y) 1 ≡ (eqb x 1 && eqb y 1)
+both_bits x y h k = grind (arith, nat_tests)
 
-holds_and : (a b v : ℕ) → holds (bit_and a b) v ≡ (holds a v && holds b v)
-holds_and a b v =
-    ap (λ n. eqb n 1) (ap (λ n. n % 2) (and_shr a b v) ∙ and_mod (a / 2 ^ v) (b / 2 ^ v) 1)
-    ∙ and_bits (a / 2 ^ v % 2) (b / 2 ^ v % 2) (mod_below (a / 2 ^ v) 2 (omega arith)) (mod_below (b / 2 ^ v) 2 (omega arith))
-
-other_bit : (x y : ℕ) → x < 2 → x + y ≡ 1 → eqb y 1 ≡ not (eqb x 1)
-other_bit zero y h e = ap (λ n. eqb n 1) e'
-  where
-    e' : y ≡ 1
-    e' = omega arith
-other_bit (suc zero) y h e = ap (λ n. eqb n 1) e'
-  where
-    e' : y ≡ 0
-    e' = omega arith
-other_bit (suc (suc x)) y h e = absurd (omega arith)
-
--- the complement of a mask of 32 bits
-holds_not : (m v : ℕ) → m < 2 ^ 32 → v < 32 → holds (4294967295 - m) v ≡ not (holds m v)
-holds_not m v fits l =
-    let q = m / 2 ^ v in
-    let half = 2 ^ (31 - v) in
-    let s : 32 ≡ (31 - v) + 1 + v = omega arith in
-    let all : 4294967296 ≡ half * 2 * 2 ^ v = ap (λ k. 2 ^ k) s ∙ pow-add 2 (31 - v + 1) v ∙ ap (λ k. k * 2 ^ v) (pow-add 2 (31 - v) 1) in
-    let top : q < half * 2 = div_below m (2 ^ v) (half * 2) (pow_pos v) (omega (arith, all)) in
-    let a = half * 2 - 1 - q in
-    let whole : half * 2 ≡ a + q + 1 = omega arith in
-    let parts : half * 2 * 2 ^ v ≡ a * 2 ^ v + q * 2 ^ v + 1 * 2 ^ v = ap (λ k. k * 2 ^ v) whole ∙ add-mul (a + q) 1 (2 ^ v) ∙ ap (λ k. k + 1 * 2 ^ v) (add-mul a q (2 ^ v)) in
-    let r = m % 2 ^ v in
-    let low : r < 2 ^ v = mod_below m (2 ^ v) (pow_pos v) in
-    let is : 4294967295 - m ≡ a * 2 ^ v + (2 ^ v - 1 - r) = omega (arith, all, parts, div-add-mod' m (2 ^ v), one-mul (2 ^ v)) in
-    let shr : (4294967295 - m) / 2 ^ v ≡ a = ap (λ k. k / 2 ^ v) is ∙ div-mul-add a (2 ^ v) (2 ^ v - 1 - r) (omega (arith, low)) in
-    ap (λ k. eqb (k % 2) 1) shr ∙ other_bit (q % 2) (a % 2) (mod_below q 2 (omega arith)) (omega (arith, whole))
+other_bit : (x : ℕ) → x < 2 → eqb (1 - x) 1 ≡ not (eqb x 1)
+other_bit x h = grind (arith, nat_tests)
 
 pub holds_without : (m o v : ℕ) → o < 2 ^ 32 → v < 32 → holds (bit_and m (4294967295 - o)) v ≡ (holds m v && not (holds o v))
-holds_without m o v fits l = holds_and m (4294967295 - o) v ∙ ap (λ t. holds m v && t) (holds_not o v fits l)
+holds_without m o v fits l =
+    let rest = 4294967295 - o in
+    ap (λ n. eqb n 1) (bit_at_and m rest v) ∙ both_bits (bit_at m v) (bit_at rest v) (bit_at-lt m v) (bit_at-lt rest v)
+    ∙ ap (λ t. holds m v && t) (ap (λ n. eqb n 1) (bit_at_not w32 o v fits l) ∙ other_bit (bit_at o v) (bit_at-lt o v))

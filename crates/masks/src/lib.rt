@@ -1,10 +1,12 @@
 // Sets of routers as 32-bit masks.
+// kept: pages keep their sets in handed memory, 32 bits a set (no heap), so a set is a number.
 #![tactic(auto)]
 
 ghost use Rattle.std.specs.Prelude.{◌≡◌, ℕ, ◌<◌, ◌≤◌, ◌||◌, ◌==◌};
 ghost use Rattle.masks.specs.Sets.{holds, including, besides};
 
 // Whether the router is in the set.
+#[tactic(auto, using(crate::proofs::SetLaws::holds_past))]
 pub fn has(mask: u32, router: usize) -> bool
     ensures { result ≡ holds mask router }
 {

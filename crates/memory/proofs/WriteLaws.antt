@@ -1,8 +1,7 @@
 -- The laws of `laid`: writes that follow one another are one write.
-use Rattle.std.proofs.Common.{◌≡◌, ℕ, ◌+◌, ◌<◌, ◌≤◌, true, false, List, [], ◌∷◌, ◌++◌, length, take, drop, set, Ok, Err, sym, ap, ◌∙◌, append_assoc, add-zero, add-one, arith, length-append, length-drop, take-append-drop}
+use Rattle.std.proofs.Common.{◌≡◌, ℕ, ◌+◌, ◌<◌, ◌≤◌, true, List, [], ◌∷◌, ◌++◌, length, take, drop, set, Ok, sym, ap, ◌∙◌, append_assoc, add-zero, add-one, arith, length-append, length-drop, take-append-drop}
 use Rattle.std.proofs.lemmas.List.{take_at, drop_at, drop-drop, set_split, length-take-le}
-use Rattle.std.proofs.lemmas.Bool.{cond-true, cond-false}
-use Rattle.faults.specs.declared.refusal.Refusal.TheVariants.{MemoryTooShort}
+use Rattle.std.proofs.lemmas.Bool.{cond-true}
 use Rattle.memory.specs.Writes.{laid, fits, write_answer, write_leaves}
 
 pub laid_none : {A : Type 0} (old : List A) (at : ℕ) → laid old at [] ≡ old
@@ -48,10 +47,7 @@ holds_more old out next at place then items more h room t n = record {
   holds = n ∙ (λ i. laid (h.holds i) (h.ends i) more) ∙ laid_laid old at items more (omega (arith, h.ends));
 }
 
--- what is promised of a write that fits, and of one that does not
+-- what is promised of a write that fits
 module _ {A : Type 0} (old : List A) (at : ℕ) (news : List A) where
   pub write_fits : fits old at (length news) ≡ true → (Ok (at + length news) ≡ write_answer old at news) × (laid old at news ≡ write_leaves old at news)
   write_fits h = (sym (cond-true _ _ _ h), sym (cond-true _ _ _ h))
-
-  pub write_refused : fits old at (length news) ≡ false → (Err MemoryTooShort ≡ write_answer old at news) × (old ≡ write_leaves old at news)
-  write_refused h = (sym (cond-false _ _ _ h), sym (cond-false _ _ _ h))

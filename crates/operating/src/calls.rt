@@ -31,7 +31,7 @@ pub enum Call<'a> {
 }
 
 // What a call answered: put, cut and settle nothing but their fault, hops the tree hop and the two sets, path and walk a number.
-#[derive(Clone, Copy)]
+#[derive(Clone, Copy, Debug, PartialEq, Eq)]
 pub enum Answer {
     Done(Result<(), Fault>),
     Found(Result<(Option<usize>, u32, u32), Fault>),

@@ -3,6 +3,8 @@
 
 pub mod calls;
 pub mod making;
+pub mod memories;
 
 pub use calls::{Answer, Call};
 pub use making::operate;
+pub use memories::Memories;

@@ -1,5 +1,4 @@
 -- Rest costs that are absent, and what a page answers.
-use mathlib.Core.Path.{fun_ext}
 use Rattle.std.proofs.Common.{◌≡◌, ℕ, ◌<◌, ◌≤◌, Bool, true, false, not, ◌&&◌, List, ◌++◌, map, length, get_or, drop, is_some, Some, None, Option, sym, refl, ap, ◌∙◌, ap₂, ⊎_elim, arith}
 use Rattle.std.proofs.lemmas.List.FromFn.{length-map-range_with_len, get_or-map-range_with_len}
 use Rattle.std.proofs.lemmas.List.{drop_at, get_or_past}
@@ -20,15 +19,14 @@ use Rattle.routes.proofs.Order.{least_some}
 use Rattle.routes.proofs.Routes.{end_below}
 use Rattle.routes.proofs.Theorems.{rest_is_least_lem}
 use Rattle.routes.proofs.Transverses.{transverse_neighbour, transverse_through}
-use Rattle.nearest.specs.Found.{Searched}
-use Rattle.nearest.specs.Steps.{costs_in}
-use Rattle.nearest.specs.declared.found.Found.{Found}
+use Rattle.squares.specs.Found.{Searched}
+use Rattle.squares.specs.Known.{costs_in}
+use Rattle.squares.specs.declared.found.Found.{Found}
 use Rattle.pagetable.specs.declared.page.Page.{Page}
-use Rattle.passes.proofs.Orders.{at_table, at_hops}
-use Rattle.passes.proofs.Rows.{father_inside}
+use Rattle.settling.proofs.Orders.{at_table, at_hops}
+use Rattle.settling.proofs.Rows.{father_inside}
 use Rattle.page_settling.specs.Hops.{cost_held, sets_below}
 use Rattle.page_settling.specs.Settled.{page_kept, Answers}
-use Rattle.routes.proofs.Gathered.{same_mask}
 use Rattle.masks.proofs.MaskLaws.{mask_none, mask_besides}
 
 -- What a row holds for a router of the mask, and for another.
@@ -99,25 +97,19 @@ module _ {C : Type 0} (N : Network C) (sound : Sound N) (root : ℕ) where
       set : ℕ → ℕ
       set d = mask N.count (λ v. p v d)
 
-  -- the sets of valid hops as a page keeps them
-  valid_kept : sets_below N.count (valid N F root) ≡ map (valid_set N F root) (range_with_len 0 32)
-  unfolding valid_set
-  valid_kept = ap (λ f. map f (range_with_len 0 32)) (fun_ext (λ d. sym (same_mask N.count (λ v. valid N F root v d))))
-
   -- a page by its four lists
   pub page_is : (p : Page) → p.father ≡ map (F root) (range_with_len 0 32) → p.hop ≡ map (hop N F root) (range_with_len 0 32) →
       p.candidates ≡ sets_below N.count (λ v d. is_some (rest N F root v d)) → p.valid ≡ sets_below N.count (valid N F root) → p ≡ page_kept N root
-  page_is p father hop candidates valid = λ i. record { father = father i; hop = hop i; candidates = candidates i; valid = (valid ∙ valid_kept) i }
+  unfolding valid_set
+  page_is p father hop candidates valid = λ i. record { father = father i; hop = hop i; candidates = candidates i; valid = valid i }
 
   pub answers : Answers N root (page_kept N root)
   unfolding valid_set other_set other
   answers d =
       let c = at_sets (λ v d. is_some (rest N F root v d)) candidate_past d in
-      let w = ap (λ sets. get_or sets d 0) (sym valid_kept) ∙ at_sets (λ v d. valid N F root v d) valid_past d in
-      let v = w ∙ sym (same_mask N.count (λ v. valid N F root v d)) in
-      let o = ap₂ besides c w ∙ mask_besides N.count (λ v. is_some (rest N F root v d)) (λ v. valid N F root v d) sound.few
-      ∙ sym (same_mask N.count (λ v. is_some (rest N F root v d) && not (valid N F root v d))) in
-      λ i. (at_hops N sound root d i, v i, o i)
+      let w = at_sets (λ v d. valid N F root v d) valid_past d in
+      let o = ap₂ besides c w ∙ mask_besides N.count (λ v. is_some (rest N F root v d)) (λ v. valid N F root v d) sound.few in
+      λ i. (at_hops N sound root d i, w i, o i)
 
   -- fathers and tree hops are routers of the network
   pub father_small : (k x : ℕ) → get_or (map (F root) (range_with_len 0 32)) k None ≡ Some x → x < 256

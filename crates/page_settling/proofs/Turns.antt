@@ -1,10 +1,10 @@
 -- The rows and the sets of hops after some routers.
-use Rattle.std.proofs.Common.{◌≡◌, ℕ, zero, suc, ◌+◌, ◌-◌, ◌*◌, ◌<◌, ◌≤◌, Bool, true, false, cond, ◌&&◌, List, ◌++◌, map, length, get_or, take, drop, replicate, is_some, Some, None, Option, sym, refl, ap, ◌∙◌, subst, ap₂, add-mul, one-mul, zero-mul, arith}
+use Rattle.std.proofs.Common.{◌≡◌, ℕ, zero, suc, ◌+◌, ◌-◌, ◌*◌, ◌<◌, ◌≤◌, Bool, true, false, cond, ◌&&◌, List, ◌++◌, map, length, get_or, take, drop, replicate, is_some, Some, None, Option, sym, refl, ap, ◌∙◌, subst, ap₂, ⊎_elim, add-mul, one-mul, zero-mul, arith}
 use borrow.Rule.Slice.PartMut.{put_mid}
 use Rattle.std.proofs.lemmas.Nat.{mul-add-lt}
 use Rattle.std.proofs.lemmas.List.FromFn.{length-map-range_with_len, get_or-map-range_with_len, fill_by_all}
 use Rattle.std.proofs.lemmas.List.{drop-drop}
-use Rattle.std.proofs.lemmas.Bool.{lt-ltb}
+use Rattle.std.proofs.lemmas.Bool.{cases_lt, and_left, lt-ltb, le-ltb}
 use Rattle.std.specs.List.{range_with_len}
 use Rattle.costs.specs.Costs.{Costs}
 use Rattle.masks.specs.Sets.{holds, mask}
@@ -17,10 +17,10 @@ use Rattle.routes.specs.Network.{Network, Sound}
 use Rattle.routes.specs.Transverse.{rest, valid}
 use Rattle.routes.specs.Tree.{lowest_father}
 use Rattle.routes.proofs.Gathered.{gather_more}
-use Rattle.nearest.specs.Found.{Searched}
-use Rattle.nearest.specs.Steps.{costs_in}
-use Rattle.nearest.specs.declared.found.Found.{Found}
-use Rattle.passes.proofs.Trees.{known_best}
+use Rattle.squares.specs.Found.{Searched}
+use Rattle.squares.specs.Known.{costs_in}
+use Rattle.squares.specs.declared.found.Found.{Found}
+use Rattle.settling.proofs.Trees.{known_best}
 use Rattle.page_settling.specs.Hops.{sets_below, set_with, cost_held, is_nearer}
 use Rattle.page_settling.specs.Settled.{rest_row, rest_memory}
 use Rattle.page_settling.proofs.Rests.{candidate_past, valid_past}
@@ -72,37 +72,41 @@ entered_first N root old = record { candidates = refl; valid = refl; rows = reco
 module _ {C : Type 0} (N : Network C) (sound : Sound N) (root : ℕ) {memory : List C} {found : Found} (s : Searched N root memory memory found)
     {old now : List C} {cs vs : List ℕ} {v : ℕ} (room : N.count * N.count ≤ length old) (h : Entered N root old now cs vs v) (l : v < N.count) where
   module _ (row : List C) (reached near : ℕ) (costs : (d : ℕ) → d < N.count → costs_in N.rule row reached d ≡ rest N (lowest_father N) root v d)
-      (nearer : near ≡ mask N.count (is_nearer N.rule row reached memory found.known)) where
-    candidate_here : (d : ℕ) → d < N.count → holds reached d ≡ is_some (rest N (lowest_father N) root v d)
-    candidate_here d k = sym (by (holds reached d) (get_or row d N.rule.zero)) ∙ ap is_some (costs d k)
+      (gone : (d : ℕ) → N.count ≤ d → holds reached d ≡ false) (nearer : near ≡ mask N.count (is_nearer N.rule row reached memory found.known)) where
+    candidate_here : (d : ℕ) → holds reached d ≡ is_some (rest N (lowest_father N) root v d)
+    candidate_here d =
+        ⊎_elim (λ k. sym (by (holds reached d) (get_or row d N.rule.zero)) ∙ ap is_some (costs d k)) (λ k. gone d k ∙ sym (candidate_past N sound root v d k)) (cases_lt d N.count)
       where
         by : (t : Bool) (c : C) → is_some (cond t (Some c) None) ≡ t
         by true c = refl
         by false c = refl
 
-    valid_here : (d : ℕ) → d < N.count → holds near d ≡ valid N (lowest_father N) root v d
+    valid_here : (d : ℕ) → holds near d ≡ valid N (lowest_father N) root v d
     unfolding valid
-    valid_here d k =
+    valid_here d =
         ap (λ m. holds m d) nearer ∙ mask_holds N.count (is_nearer N.rule row reached memory found.known) d
-        ∙ ap (λ t. t && is_nearer N.rule row reached memory found.known d) (lt-ltb d N.count k)
-        ∙ ap₂ (below N.rule) (costs d k) (known_best N sound root memory found s d k)
+        ∙ ⊎_elim
+        (λ k. ap (λ t. t && is_nearer N.rule row reached memory found.known d) (lt-ltb d N.count k) ∙ ap₂ (below N.rule) (costs d k) (known_best N sound root memory found s d k))
+        (λ k. and_left _ _ (le-ltb d N.count k) ∙ sym (valid_past N sound root v d k))
+        (cases_lt d N.count)
 
-    abbrev next : List C
-    next = put_mid (v * N.count) ((v + 1) * N.count - v * N.count) now row
+    abbrev next : ℕ → List C
+    next n = put_mid (v * n) ((v + 1) * n - v * n) now row
 
-    pub entered_more : (cs' vs' : List ℕ) → row ≡ rest_row N root v →
-        cs' ≡ map (set_with N.count reached v cs) (range_with_len 0 32) → vs' ≡ map (set_with N.count near v vs) (range_with_len 0 32) → Entered N root old next cs' vs' (v + 1)
-    entered_more cs' vs' is ec ev =
+    pub entered_more : (n : ℕ) → n ≡ N.count → (cs' vs' : List ℕ) → row ≡ rest_row N root v →
+        cs' ≡ map (set_with 32 reached v cs) (range_with_len 0 32) → vs' ≡ map (set_with 32 near v vs) (range_with_len 0 32) → Entered N root old (next n) cs' vs' (v + 1)
+    entered_more n en cs' vs' is ec ev =
         let long : length (rest_row N root v) ≡ N.count = length-map-range_with_len _ 0 N.count in
         let end = row_end v N.count in
         let small : v < 32 = omega (arith, sound.few) in
         record {
-          candidates = ec ∙ sets_more N.count reached v (λ x d. is_some (rest N (lowest_father N) root x d)) sound.few small candidate_here (candidate_past N sound root v) cs h.candidates;
-          valid = ev ∙ sets_more N.count near v (valid N (lowest_father N) root) sound.few small valid_here (valid_past N sound root v) vs h.valid;
-          rows = subst (Holds old next 0 ((v + 1) * N.count)) (sym (gather_more v (rest_row N root)))
-              (holds_more old now next 0 (v * N.count) ((v + 1) * N.count) (gather v (rest_row N root)) (rest_row N root v) h.rows
+          candidates = ec ∙ sets_more 32 reached v (λ x d. is_some (rest N (lowest_father N) root x d)) (omega arith) small (λ d _. candidate_here d) (λ d k. candidate_past N sound root v d (omega (arith, k, sound.few))) cs h.candidates;
+          valid = ev ∙ sets_more 32 near v (valid N (lowest_father N) root) (omega arith) small (λ d _. valid_here d) (λ d k. valid_past N sound root v d (omega (arith, k, sound.few))) vs h.valid;
+          rows = subst (λ k. Holds old (next k) 0 ((v + 1) * N.count) (gather (v + 1) (rest_row N root))) (sym en)
+              (subst (Holds old (next N.count) 0 ((v + 1) * N.count)) (sym (gather_more v (rest_row N root)))
+              (holds_more old now (next N.count) 0 (v * N.count) ((v + 1) * N.count) (gather v (rest_row N root)) (rest_row N root v) h.rows
               (omega (arith, room, row_fits v N.count l)) (omega arith)
-              (part_laid (v * N.count) ((v + 1) * N.count - v * N.count) now row (ap length is ∙ omega arith) ∙ ap (laid now (v * N.count)) is));
+              (part_laid (v * N.count) ((v + 1) * N.count - v * N.count) now row (ap length is ∙ omega arith) ∙ ap (laid now (v * N.count)) is)));
         }
 
 -- all rows are written

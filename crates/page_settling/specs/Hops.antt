@@ -5,7 +5,7 @@ use Rattle.costs.specs.Costs.{Costs}
 use Rattle.masks.specs.Sets.{holds, including, mask}
 use Rattle.routes.specs.Leasts.{below}
 use Rattle.routes.specs.Lists.{when_some}
-use Rattle.nearest.specs.Steps.{costs_in}
+use Rattle.squares.specs.Known.{costs_in}
 
 -- for each of 32 routers the set of those below v that pass the test for it
 abbrev pub sets_below : ℕ → (ℕ → ℕ → Bool) → List ℕ

@@ -10,7 +10,7 @@ use Rattle.routes.specs.Network.{Network}
 use Rattle.routes.specs.Pages as routes
 use Rattle.routes.specs.Transverse.{rest, valid_set}
 use Rattle.routes.specs.Tree.{lowest_father, hop}
-use Rattle.nearest.specs.Matrix.{Ready}
+use Rattle.search.specs.Steps.{Ready}
 
 module _ {C : Type 0} (N : Network C) (root : ℕ) where
   -- the rest costs of v to each router, the zero cost where there is none
@@ -43,6 +43,6 @@ module _ {C : Type 0} (N : Network C) (root : ℕ) where
       (d : ℕ) → hops_to p d ≡ (P.hop d, P.valid d, P.other d)
 
 -- a root that can be settled: a place for each best cost, and one for each rest cost and each entry that waits
-pub record CanSettle {C : Type 0} (links : List ℕ) (count root : ℕ) (best rest : List C) (waiting : List (Entry C)) : Type 0 where
-  pub ready : Ready links count root best waiting
-  pub rows : count * count ≤ length rest
+pub record CanSettle {C : Type 0} (N : Network C) (root : ℕ) (best rest : List C) (waiting : List (Entry C)) : Type 0 where
+  pub ready : Ready N root best waiting
+  pub rows : N.count * N.count ≤ length rest

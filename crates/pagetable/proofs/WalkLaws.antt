@@ -1,7 +1,9 @@
 -- How a walk ends and goes on, and what each of its turns keeps.
-use Rattle.std.proofs.Common.{◌≡◌, ℕ, zero, suc, ◌+◌, ◌%◌, ◌<◌, Bool, true, false, cond, eqb, List, [], ◌∷◌, ◌++◌, length, get_or, drop, set, Some, None, sym, refl, ap, ◌∙◌, ⊎_elim, append_assoc, add-one, arith}
+use Rattle.std.proofs.Common.{◌≡◌, ℕ, zero, suc, ◌+◌, ◌%◌, ◌<◌, ◌≤◌, Bool, true, false, cond, eqb, List, [], ◌∷◌, ◌++◌, length, get_or, drop, take, set, Some, None, sym, refl, ap, ◌∙◌, ◌&&◌, append_assoc, add-one, arith}
 use Rattle.std.proofs.lemmas.List.{drop_more, drop-set-lt, length_push, length-set, set-set, nil_from_length}
-use Rattle.std.proofs.lemmas.Bool.{eq-eqb, ne_eqb, cond-true, cond-false, and_left, and_right, and_from, cases_eq}
+use Rattle.std.proofs.lemmas.List.Folds.{list_all_more}
+use Rattle.std.specs.List.{list_all}
+use Rattle.std.proofs.lemmas.Bool.{eq-eqb, ne_eqb, cond-true, cond-false}
 use Rattle.memory.specs.Writes.{laid}
 use Rattle.memory.proofs.WriteLaws.{set_laid, laid_more}
 use Rattle.masks.specs.Sets.{members}
@@ -96,21 +98,10 @@ module _ (sets : ℕ → ℕ) (to from : ℕ) (picks : List ℕ) where
       (long, w.written ∙ (λ j. laid (e j) 0 (whole j)) ∙ ap (λ l. walk_by sets to picks from ++ l) (drop-set-lt (0 + length (walk_by sets to picks from)) was 0 from (omega arith)))
 
 -- ---- whether all pages are current
-module _ (pages : PageTable) where
-  pub current_none : all_current pages 0 ≡ true
-  unfolding all_current
-  current_none = refl
-
-  pub current_more : (n : ℕ) → all_current pages n ≡ true → is_current pages n ≡ true → all_current pages (n + 1) ≡ true
-  unfolding all_current
-  current_more n h e = rw add-one (and_from _ _ h e)
-
-  -- one that is stale
-  pub current_fails : (n k : ℕ) → k < n → is_current pages k ≡ false → all_current pages n ≡ false
-  unfolding all_current
-  current_fails zero k l e = absurd (omega arith)
-  current_fails (suc n) k l e =
-      ⊎_elim
-      (λ (s : k ≡ n). and_right _ _ (ap (is_current pages) (sym s) ∙ e))
-      (λ ne. and_left _ _ (current_fails n k (omega arith) e))
-      (cases_eq k n)
+-- they are where each of the first n marks is set
+pub all_marked : (pages : PageTable) (n : ℕ) → n ≤ length pages.current → list_all (λ b. b) (take n pages.current) ≡ all_current pages n
+unfolding all_current
+all_marked pages zero h = refl
+all_marked pages (suc n) h =
+    ap (λ k. list_all (λ b. b) (take k pages.current)) (sym (add-one n)) ∙ list_all_more (λ b. b) pages.current n false h
+    ∙ ap (λ t. t && is_current pages n) (all_marked pages n (omega arith))

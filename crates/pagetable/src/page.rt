@@ -1,4 +1,5 @@
 // What is worked out for one root, for each router: its father, its tree hop, its candidates and, of these, its valid hops.
+// kept: four arrays, and no array of a struct for each router, since each pass fills one array from the one before.
 #[derive(Clone, Copy)]
 pub struct Page {
     pub father: [Option<u8>; 32],

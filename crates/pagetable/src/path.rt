@@ -1,4 +1,4 @@
-ghost use Rattle.std.specs.Prelude.{◌≡◌, ◌<◌, length, None, slice_index_or};
+ghost use Rattle.std.specs.Prelude.{◌≡◌, ◌<◌, length, None, slice_index, slice_index_or};
 ghost use Rattle.memory.specs.Writes.{laid};
 ghost use Rattle.pagetable.specs.Pages.{blank, hops_to, path_by};
 
@@ -9,11 +9,7 @@ use masks::without;
 fn router_at(routers: &[Option<u8>], place: usize) -> Option<usize>
     ensures { result ≡ slice_index_or routers.now place None }
 {
-    match routers.get(place) {
-        Some(Some(x)) => Some(*x as usize),
-        Some(None) => None,
-        None => None,
-    }
+    routers.get(place).copied().flatten().map(usize::from)
 }
 
 impl Page {
@@ -43,16 +39,20 @@ impl Page {
         router_at(&self.hop, router)
     }
 
+    // The valid set towards a router; from 32 on a router has none.
+    pub(crate) fn valid_to(&self, router: usize) -> u32
+        ensures { result ≡ slice_index self.now.valid router }
+    {
+        self.valid.get(router).copied().unwrap_or(0)
+    }
+
     // The tree hop, the valid set and the other set towards a router.
     pub fn hops_to(&self, router: usize) -> (Option<usize>, u32, u32)
         ensures { result ≡ hops_to self.now router }
     {
-        let hop = self.hop_of(router);
-        if router >= 32 {
-            return (hop, 0, without(0, 0));
-        }
-        let valid = self.valid[router];
-        (hop, valid, without(self.candidates[router], valid))
+        let candidates = self.candidates.get(router).copied().unwrap_or(0);
+        let valid = self.valid_to(router);
+        (self.hop_of(router), valid, without(candidates, valid))
     }
 
     // Writes the tree path of a router, at most `left` links long, to the front of the memory: that of its
@@ -62,20 +62,11 @@ impl Page {
         ensures many { result ≡ length (path_by self.now.father left router) }
         ensures memory { out.new ≡ laid out.old 0 (path_by self.now.father left router) }
     {
-        if left == 0 {
-            out[0] = router;
-            return 1;
-        }
-        match self.father_of(router) {
-            None => {
-                out[0] = router;
-                1
-            }
-            Some(x) => {
-                let at = self.write_path(x, left - 1, out);
-                out[at] = router;
-                at + 1
-            }
-        }
+        let at = match self.father_of(router) {
+            Some(father) if left > 0 => self.write_path(father, left - 1, out),
+            _ => 0,
+        };
+        out[at] = router;
+        at + 1
     }
 }

@@ -1,9 +1,12 @@
-ghost use Rattle.std.specs.Prelude.{◌≡◌, ◌<◌};
+ghost use Rattle.std.specs.Prelude.{◌≡◌, ◌<◌, ◌≤◌};
 ghost use Rattle.pagetable.specs.Pages.{all_blank, all_stale, entered, is_current, page_of};
+ghost use Rattle.pagetable.specs.Walks.{all_current};
 
 use crate::page::Page;
 
 // The pages of an area by root, and which of them are current; the others are stale.
+// kept: marks beside the pages, and no `Option` of a page, since a stale page keeps what was entered last, which `page`
+// promises, and all are marked stale by one write.
 #[derive(Drop)]
 pub struct PageTable {
     current: [bool; 32],
@@ -15,10 +18,9 @@ impl PageTable {
     pub fn new() -> PageTable
         ensures { result ≡ all_blank }
     {
-        let page = Page::new();
         PageTable {
             current: [false; 32],
-            pages: [page; 32],
+            pages: [Page::new(); 32],
         }
     }
 
@@ -44,6 +46,14 @@ impl PageTable {
         ensures { result ≡ is_current self.now root }
     {
         self.current[root]
+    }
+
+    // Whether the pages of the first so many routers are all current.
+    pub fn all_current(&self, count: usize) -> bool
+        requires { count ≤ 32 }
+        ensures { result ≡ all_current self.now count }
+    {
+        self.current[..count].iter().all(|current| *current)
     }
 
     // The page of a root, as it was entered last.

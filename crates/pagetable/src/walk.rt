@@ -1,37 +1,11 @@
-ghost use Rattle.std.specs.Prelude.{◌≡◌, ◌+◌, ◌<◌, ◌≤◌, length, slice_index};
+ghost use Rattle.std.specs.Prelude.{◌≡◌, ◌+◌, ◌<◌, ◌≤◌, length};
 ghost use Rattle.memory.specs.Writes.{laid};
-ghost use Rattle.pagetable.specs.Walks.{trail_on, all_current};
+ghost use Rattle.pagetable.specs.Walks.{trail_on};
 
-use crate::page::Page;
 use crate::table::PageTable;
 use masks::has;
 
-impl Page {
-    // The valid set towards a router; from 32 on a router has none.
-    fn valid_to(&self, router: usize) -> u32
-        ensures { result ≡ slice_index self.now.valid router }
-    {
-        if router >= 32 {
-            return 0;
-        }
-        self.valid[router]
-    }
-}
-
 impl PageTable {
-    // Whether the pages of the first so many routers are all current.
-    pub fn all_current(&self, count: usize) -> bool
-        requires { count ≤ 32 }
-        ensures { result ≡ all_current self.now count }
-    {
-        for root in 0..count {
-            if !self.is_current(root) {
-                return false;
-            }
-        }
-        true
-    }
-
     // Walks by valid hops: writes the routers met, the start included, to the front of the trail, and answers the hops.
     // Each pick in turn, modulo the size of the valid set, chooses the hop by rising router number.
     pub fn walk(
@@ -47,6 +21,8 @@ impl PageTable {
         ensures within { result < count }
         ensures memory { trail.new ≡ laid trail.old 0 (trail_on self.now count to picks.now from) }
     {
+        // kept: that the loop yields the hop number by a labelled break, round a `for` over the picks with their index
+        // and a scan of the valid set, is a rule of the project.
         let mut here = from;
         trail[0] = from;
         let hops = 'walk: loop {

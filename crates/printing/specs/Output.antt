@@ -1,50 +1,43 @@
 -- What the program `pages` prints of its input.
-use Rattle.std.specs.Prelude.{ℕ, Bool, true, false, cond, List, ◌++◌, length, Ok, Err, codes, decimal, Result, nat_lt}
-use Rattle.std.specs.Str.{bytes_eq}
+use Rattle.std.specs.Prelude.{ℕ, true, cond, List, length, Ok, Err, Result, nat_lt}
+use Rattle.std.specs.Result.{result_unwrap_or}
+use Rattle.std.specs.Option.{unwrap_or}
 use Rattle.area.specs.Loads.{Loaded, loaded}
-use Rattle.area.specs.Networks.{standing_on}
 use Rattle.costs.specs.Costs.{Costs}
 use Rattle.costs.specs.Paths.{hops_width}
 use Rattle.costs.specs.Sums.{sum}
 use Rattle.directions.specs.Directions.{next_number, next_value}
-use Rattle.faults.specs.Faults.{refusal_of, line_of}
-use Rattle.faults.specs.Refusals.{number_of}
+use Rattle.faults.specs.Faults.{fault_text}
 use Rattle.faults.specs.declared.fault.Fault.{Fault}
 use Rattle.faults.specs.declared.fault.Fault.TheVariants.{Area}
 use Rattle.faults.specs.declared.refusal.Refusal.TheVariants.{MemoryTooShort}
 use Rattle.linkfile.specs.Lines.{routers, rule}
 use Rattle.linkfile.specs.Reading.{start, onward}
 use Rattle.records.specs.Lists.{list_count, list_empty}
-use Rattle.reports.specs.Reports.{line, report_text}
 use Rattle.routes.specs.Lists.{gather}
-use Rattle.page_settling.specs.Settled.{page_kept}
+use Rattle.summary.specs.declared.names.RuleName.{RuleName}
+use Rattle.summary.specs.declared.names.RuleName.TheVariants.{Sum, HopsWidth}
+use Rattle.summary.specs.Rules.{spelt, named}
 use Rattle.tables.specs.Tables.{Table}
+use Rattle.printing.specs.Roots.{root_text}
 
 -- ---- what is printed
--- a fault: the number of its refusal and its line
-abbrev pub fault_text : Fault → List ℕ
-fault_text f = line (codes "refused") (decimal (number_of (refusal_of f))) ++ line (codes "line") (decimal (line_of f))
-
 -- the reports of all routers by rising number, each of the page of the links standing on a table
 unfoldable pub reports_text : {C : Type 0} → Costs C → Table → List ℕ
-reports_text k t = gather t.count (λ root. report_text t.count root (page_kept (standing_on k t) root))
+reports_text k t = gather t.count (root_text k t)
 
 -- ---- what is read
 -- the count that a file names, and 0 where that line is at fault
-abbrev pub number_or_none : Result ℕ Fault → ℕ
-number_or_none (Ok n) = n
-number_or_none (Err f) = 0
-
 abbrev pub file_count : List ℕ → ℕ
-file_count text = number_or_none (next_number routers (start text))
+file_count text = result_unwrap_or (next_number routers (start text)) 0
 
--- whether a file names the rule `hops-width`; any other name, and a line at fault, is left to the rule `sum`
-abbrev pub is_hops_width : Result (List ℕ) Fault → Bool
-is_hops_width (Ok name) = bytes_eq name (codes "hops-width")
-is_hops_width (Err f) = false
+-- the rule that a line names; any other name, and a line at fault, is left to the rule `sum`
+abbrev pub rule_or_sum : Result (List ℕ) Fault → RuleName
+rule_or_sum (Ok name) = unwrap_or (named name) Sum
+rule_or_sum (Err f) = Sum
 
-abbrev pub file_by_width : List ℕ → Bool
-file_by_width text = is_hops_width (next_value rule (onward (start text)))
+abbrev pub file_rule : List ℕ → RuleName
+file_rule text = rule_or_sum (next_value rule (onward (start text)))
 
 -- ---- the program
 -- a plain table with these numbers, of n routers in 992 records
@@ -62,10 +55,13 @@ file_output k title n text =
     let l : Loaded = loaded k title (list_empty 992 n) text in
     told k n l l.answer
 
+-- under the costs and the name of a rule
+abbrev pub output_by : RuleName → ℕ → List ℕ → List ℕ
+output_by Sum n text = file_output sum (spelt Sum) n text
+output_by HopsWidth n text = file_output hops_width (spelt HopsWidth) n text
+
 -- the input by the count and the rule that it names; one of more than 32768 bytes is refused unread
 abbrev pub output : List ℕ → List ℕ
 output text =
     cond (nat_lt 32768 (length text)) (fault_text (Area MemoryTooShort 0))
-    (cond (file_by_width text)
-    (file_output hops_width (codes "hops-width") (list_count 992 (file_count text)) text)
-    (file_output sum (codes "sum") (list_count 992 (file_count text)) text))
+    (output_by (file_rule text) (list_count 992 (file_count text)) text)

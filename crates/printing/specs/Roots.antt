@@ -1,5 +1,5 @@
 -- The report of one root, and what it takes to make it.
-use Rattle.std.specs.Prelude.{◌≡◌, ℕ, ◌≤◌, List, length}
+use Rattle.std.specs.Prelude.{◌≡◌, ℕ, List, length}
 use Rattle.area.specs.Networks.{standing_on}
 use Rattle.costs.specs.Costs.{Costs}
 use Rattle.pagetable.specs.declared.table.PageTable.{PageTable}
@@ -15,9 +15,3 @@ root_text k t root = report_text t.count root (page_kept (standing_on k t) root)
 pub record Wide (p : PageTable) : Type 0 where
   pub current : length p.current ≡ 32
   pub pages : length p.pages ≡ 32
-
--- memories of so many best costs, rest costs and entries that wait, for at most 32 routers
-pub record Room (best rest waiting : ℕ) : Type 0 where
-  pub costs : 32 ≤ best
-  pub rows : 1024 ≤ rest
-  pub entries : 1024 ≤ waiting

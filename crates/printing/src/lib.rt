@@ -5,5 +5,7 @@ pub mod fault_lines;
 pub mod head;
 pub mod output;
 pub mod reporting;
+pub mod rooms;
 
-pub use output::{LONGEST_INPUT, print_pages};
+pub use output::print_pages;
+pub use summary::LONGEST_INPUT;

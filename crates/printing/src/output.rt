@@ -4,17 +4,15 @@ ghost use Rattle.records.specs.Lists.{list_count, list_empty};
 ghost use Rattle.tables.specs.Meaning.{means};
 
 use crate::fault_lines::tell_fault;
-use crate::head::{file_count, names_hops_width};
+use crate::head::{file_count, file_rule};
 use crate::reporting::all_reports;
 use area::Area;
 use costs::{Cost, PathCost};
 use faults::{Fault, Refusal};
 use records::{Record, Records};
 use std::alloc::{AllocError, Global};
+use summary::{LONGEST_INPUT, RuleName};
 use tables::LinkTable;
-
-// The most bytes that the program reads.
-pub const LONGEST_INPUT: usize = 32768;
 
 // The reports of a file that is loaded into a table, which is an empty list of 992 records, or its fault.
 fn print_loaded<C: Cost, T: LinkTable + Drop>(
@@ -22,8 +20,8 @@ fn print_loaded<C: Cost, T: LinkTable + Drop>(
     table: T,
     input: &[u8],
 ) -> Result<Vec<u8>, AllocError>
-    requires { means T.LinkTable table ≡ list_empty 992 (T.LinkTable.count table) }
-    ensures { IfOk result (λ bytes. bytes.items ≡ file_output C.Cost.costs C.Cost.title (T.LinkTable.count table) input.now) }
+    requires { means T.LinkTable table ≡ list_empty 992 (means T.LinkTable table).count }
+    ensures { IfOk result (λ bytes. bytes.items ≡ file_output C.Cost.costs C.Cost.title (means T.LinkTable table).count input.now) }
 {
     let mut area = Area::<C, T>::open(table);
     match area.load(input) {
@@ -55,9 +53,8 @@ pub fn print_pages(heap: Global, input: &[u8]) -> Result<Vec<u8>, AllocError>
         );
     }
     let count = file_count(input);
-    if names_hops_width(input) {
-        print_file::<PathCost>(heap, input, count)
-    } else {
-        print_file::<u32>(heap, input, count)
+    match file_rule(input) {
+        RuleName::Sum => print_file::<u32>(heap, input, count),
+        RuleName::HopsWidth => print_file::<PathCost>(heap, input, count),
     }
 }

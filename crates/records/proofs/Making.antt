@@ -1,13 +1,12 @@
 -- A list as it is made: empty where it has routers, and else as it was.
-use Rattle.std.proofs.Common.{◌≡◌, ℕ, zero, suc, Bool, true, false, cond, eqb, List, length, replicate, Some, None, Option, sym, refl, ap, ◌∙◌, ⊎_elim}
+use Rattle.std.proofs.Common.{◌≡◌, ℕ, zero, suc, Bool, true, false, cond, eqb, List, length, replicate, None, sym, refl, ap, ◌∙◌, ⊎_elim}
 use mathlib.Core.Path.{fun_ext}
-use Rattle.faults.specs.Calls.{granted}
-use Rattle.faults.specs.declared.refusal.Refusal.{Refusal}
 use Rattle.records.specs.Lists.{find, emptied, list_refusal, list_count, list_links, list_table, list_empty, no_record, tidy, Tidy}
 use Rattle.records.specs.declared.record.Record.{Record}
 use Rattle.std.proofs.lemmas.List.{length-replicate}
 use Rattle.std.proofs.lemmas.Bool.{cond_both, or_left, or_right, cases_Bool, cond-false}
 use Rattle.tables.specs.Links.{no_links}
+use Rattle.tables.proofs.Makings.{made_again}
 
 -- free records hold nothing
 free_find : (n a b : ℕ) → find (replicate n no_record) a b ≡ None
@@ -18,14 +17,6 @@ free_tidy : (k n : ℕ) → tidy k (replicate n no_record) ≡ true
 free_tidy k zero = refl
 free_tidy k (suc n) = free_tidy k n
 
--- the count of a list is one that a list can be made with
-count_again : (len c : ℕ) → list_count len (list_count len c) ≡ list_count len c
-count_again len c = go (list_refusal len c) refl
-  where
-    go : (o : Option Refusal) → list_refusal len c ≡ o → list_count len (granted o c 0) ≡ granted o c 0
-    go None e = ap (λ o. granted o c 0) e
-    go (Some x) e = refl
-
 module _ (rs : List Record) (c n : ℕ) (e : n ≡ list_count (length rs) c) where
   length_emptied : length (emptied rs n) ≡ length rs
   length_emptied =
@@ -33,7 +24,7 @@ module _ (rs : List Record) (c n : ℕ) (e : n ≡ list_count (length rs) c) whe
 
   pub made_tidy : Tidy (emptied rs n) n
   made_tidy = (
-    ap (λ k. list_count k n) length_emptied ∙ ap (list_count (length rs)) e ∙ count_again (length rs) c ∙ sym e,
+    ap (λ k. list_count k n) length_emptied ∙ ap (list_count (length rs)) e ∙ made_again (list_refusal (length rs)) c ∙ sym e,
     ⊎_elim
         (λ (h : eqb n 0 ≡ true). or_left (eqb n 0) _ h)
         (λ (h : eqb n 0 ≡ false). or_right (eqb n 0) _ (ap (tidy n) (cond-false (eqb n 0) rs _ h) ∙ free_tidy n (length rs)))

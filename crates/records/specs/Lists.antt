@@ -1,17 +1,18 @@
 -- A list of records as a link table.
-use Rattle.std.specs.Prelude.{◌≡◌, ℕ, suc, ◌≤◌, Bool, true, false, cond, not, ◌&&◌, ◌||◌, ◌⊎◌, List, [], ◌∷◌, length, replicate, is_some, Some, None, Option, ◌==◌, nat_le, nat_lt, refl}
+use Rattle.std.specs.Prelude.{◌≡◌, ℕ, ◌≤◌, Bool, true, false, cond, not, ◌&&◌, ◌||◌, ◌⊎◌, List, [], ◌∷◌, length, replicate, is_some, Some, None, Option, ◌==◌, nat_lt, refl}
+use Rattle.std.specs.List.{position_or_len}
 use Rattle.std.proofs.Common.{inl, inr, ⊎_elim, sym, ap₂, subst, ◌∙◌, lit≤}
 use Rattle.faults.specs.Calls.{granted}
 use Rattle.faults.specs.declared.refusal.Refusal.{Refusal}
-use Rattle.faults.specs.declared.refusal.Refusal.TheVariants.{BadCount, MemoryTooShort}
 use Rattle.records.specs.declared.record.Record.{Record}
-use Rattle.std.proofs.lemmas.Bool.{cond_both, and_parts, leb-true, cond-true, cond-false, cases_Bool, eqb-true, both_ways, or_cases}
+use Rattle.std.proofs.lemmas.Bool.{cond_both, and_parts, cond-true, cond-false, cases_Bool, eqb-true, both_ways, or_cases}
 use Rattle.tables.specs.Links.{Links, is_pair}
+use Rattle.tables.specs.Makings.{making_refusal, made_range}
 use Rattle.tables.specs.Tables.{Table, empty_table, Lawful}
 
 -- making a list: the count is not 2 to 32; there are fewer than 2 records
 abbrev pub list_refusal : ℕ → ℕ → Option Refusal
-list_refusal records n = cond (nat_le 2 n && nat_le n 32) (cond (nat_le 2 records) None (Some MemoryTooShort)) (Some BadCount)
+list_refusal records n = making_refusal n records 2
 
 -- the routers of a list of so many records: none where it cannot be made
 abbrev pub list_count : ℕ → ℕ → ℕ
@@ -42,21 +43,17 @@ abbrev pub find : List Record → Links
 find [] a b = None
 find (r ∷ rs) a b = cond (holds r a b) (Some r.number) (find rs a b)
 
--- how many items stand before the first that passes a test: all of them, where none does
-abbrev pub first : {A : Type 0} → (A → Bool) → List A → ℕ
-first p [] = 0
-first p (x ∷ xs) = cond (p x) 0 (suc (first p xs))
-
 -- a place below the length
 abbrev pub found : ℕ → ℕ → Option ℕ
 found i n = cond (nat_lt i n) (Some i) None
 
--- where a pair's number is held, where the first free record is, and where a pair's number is to be written
+-- where a pair's number is held, where the first free record is, and where a pair's number is to be written:
+-- at the length, where there is no such record
 abbrev pub held_at : List Record → ℕ → ℕ → ℕ
-held_at rs a b = first (λ r. holds r a b) rs
+held_at rs a b = position_or_len (λ r. holds r a b) rs
 
 abbrev pub free_at : List Record → ℕ
-free_at rs = first (λ r. not (live r)) rs
+free_at rs = position_or_len (λ r. not (live r)) rs
 
 abbrev pub place_of : List Record → ℕ → ℕ → ℕ
 place_of rs a b = cond (is_some (find rs a b)) (held_at rs a b) (free_at rs)
@@ -93,20 +90,6 @@ Tidy rs n = (list_count (length rs) n ≡ n) × ((n == 0 || tidy n rs) ≡ true)
 pub tidy_records : (rs : List Record) (n : ℕ) → Tidy rs n → (n == 0) ≡ false → tidy n rs ≡ true
 tidy_records rs n t e = ⊎_elim (λ z. absurd (both_ways (n == 0) e z)) (λ h. h) (or_cases (n == 0) (tidy n rs) t.1)
 
--- a list has 2 to 32 routers and 2 records, or no routers
-count_range : (n records : ℕ) → (list_count records n ≡ 0) ⊎ ((2 ≤ list_count records n) × (list_count records n ≤ 32) × (2 ≤ records))
-count_range n records =
-    cond_both (nat_le 2 n && nat_le n 32) (cond (nat_le 2 records) None (Some MemoryTooShort)) (Some BadCount) InRange
-    (λ e.
-    let p = and_parts (nat_le 2 n) (nat_le n 32) e in
-    cond_both (nat_le 2 records) None (Some MemoryTooShort) InRange
-    (λ h. inr (leb-true 2 n p.0, leb-true n 32 p.1, leb-true 2 records h))
-    (λ h. inl refl))
-    (λ e. inl refl)
-  where
-    InRange : Option Refusal → Type 0
-    InRange o = (granted o n 0 ≡ 0) ⊎ ((2 ≤ granted o n 0) × (granted o n 0 ≤ 32) × (2 ≤ records))
-
 -- only pairs of different routers have numbers
 find_pairs : (n : ℕ) (rs : List Record) → tidy n rs ≡ true → (a b : ℕ) → is_pair n a b ≡ false → find rs a b ≡ None
 find_pairs n [] t a b e = refl
@@ -129,9 +112,9 @@ links_pairs rs n t a b h =
 pub list_lawful : (rs : List Record) (n : ℕ) → Tidy rs n → Lawful (list_table rs n)
 list_lawful rs n t =
     record {
-      counted = subst (λ k. (k ≡ 0) ⊎ ((2 ≤ k) × (k ≤ 32))) t.0 (⊎_elim inl (λ h. inr (h.0, h.1)) (count_range n (length rs)));
+      counted = subst (λ k. (k ≡ 0) ⊎ ((2 ≤ k) × (k ≤ 32))) t.0 (⊎_elim inl (λ h. inr (h.0, h.1)) (made_range n (length rs) 2));
       numbered = lit≤ tt;
-      limited = subst (λ k. (k ≡ 0) ⊎ (2 ≤ length rs)) t.0 (⊎_elim inl (λ h. inr h.2) (count_range n (length rs)));
+      limited = subst (λ k. (k ≡ 0) ⊎ (2 ≤ length rs)) t.0 (⊎_elim inl (λ h. inr h.2) (made_range n (length rs) 2));
       keeps = links_pairs rs n t;
       shows = links_pairs rs n t;
       plainly = λ _. refl;

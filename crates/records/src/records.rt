@@ -1,11 +1,11 @@
-ghost use Rattle.std.specs.Prelude.{◌≡◌, length, slice_set};
+ghost use Rattle.std.specs.Prelude.{◌≡◌, not, length, position, slice_set};
 ghost use Rattle.faults.specs.Calls.{in_table, done, answered_by};
-ghost use Rattle.records.specs.Lists.{Tidy, list_refusal, list_count, list_table, list_lawful, list_empty, emptied, link_of, found, held_at, free_at, place_of};
+ghost use Rattle.records.specs.Lists.{Tidy, list_refusal, list_count, list_table, list_lawful, list_empty, emptied, link_of, live, holds, found, held_at, place_of};
 ghost use Rattle.tables.specs.Tables.{Put, Cut, Unchanged};
 
 use crate::record::Record;
 use faults::{Fault, Refusal};
-use tables::LinkTable;
+use tables::{LinkTable, check_making, check_pair};
 
 // Links in a list of records, each pair of routers in at most one.
 #[derive(Drop)]
@@ -20,13 +20,7 @@ impl<'a> Records<'a> {
     pub fn check(records: usize, count: usize) -> Result<(), Fault>
         ensures { result ≡ done (in_table (list_refusal records count)) }
     {
-        if count < 2 || count > 32 {
-            return Err(Fault::of_table(Refusal::BadCount));
-        }
-        if records < 2 {
-            return Err(Fault::of_table(Refusal::MemoryTooShort));
-        }
-        Ok(())
+        check_making(count, records, 2)
     }
 
     // An empty list. Where the check would refuse, a list of no routers, and the records stay as they are.
@@ -35,53 +29,35 @@ impl<'a> Records<'a> {
         ensures table { list_table result.records.now result.count ≡ list_empty (length records.old) (list_count (length records.old) count) }
         ensures same { result.records.ghost_name ≡ records.entry.ghost_name }
     {
-        let n = routers(records.len(), count);
-        clear(records, n);
-        Records { records, count: n }
+        let count = Records::check(records.len(), count).map_or(0, |()| count);
+        clear(records, count);
+        Records { records, count }
     }
 
     // The first record that holds the number of a pair.
     fn position(&self, from: usize, to: usize) -> Option<usize>
-        ensures { result ≡ found (held_at self.now.records.now from to) (length self.now.records.now) }
+        ensures { result ≡ position (λ r. holds r from to) self.now.records.now }
     {
-        for (i, r) in self.records.iter().enumerate() {
-            if r.holds(from, to) {
-                return Some(i);
-            }
-        }
-        None
+        self.records.iter().position(|r| r.holds(from, to))
     }
 
     // The first record that is free.
     fn free(&self) -> Option<usize>
-        ensures { result ≡ found (free_at self.now.records.now) (length self.now.records.now) }
+        ensures { result ≡ position (λ r. not (live r)) self.now.records.now }
     {
-        for (i, r) in self.records.iter().enumerate() {
-            if r.number == 0 {
-                return Some(i);
-            }
-        }
-        None
+        self.records.iter().position(|r| r.number == 0)
     }
 
     // Where the number of a pair is or can be written.
     fn place(&self, from: usize, to: usize) -> Option<usize>
         ensures { result ≡ found (place_of self.now.records.now from to) (length self.now.records.now) }
     {
+        // kept: tried `or_else(|| self.free())`, and the proof of what is returned did not close, since
+        // nothing is known of what a closure over `self` answers.
         match self.position(from, to) {
-            Some(i) => Some(i),
+            Some(held) => Some(held),
             None => self.free(),
         }
-    }
-}
-
-// The routers of a list of so many records: none where it cannot be made.
-fn routers(records: usize, count: usize) -> usize
-    ensures { result ≡ list_count records count }
-{
-    match Records::check(records, count) {
-        Ok(()) => count,
-        Err(_) => 0,
     }
 }
 
@@ -89,14 +65,13 @@ fn routers(records: usize, count: usize) -> usize
 fn clear(records: &mut [Record], count: usize)
     ensures { records.new ≡ emptied records.old count }
 {
-    if count == 0 {
-        return;
-    }
-    for r in records.iter_mut() {
-        *r = Record::FREE;
+    if count != 0 {
+        records.fill(Record::FREE);
     }
 }
 
+// kept: clauses of an impl stand in place of the trait's, so put and cut, which say more, repeat those two; and that
+// the memory is the one that was lent is said at each call, since no meaning of a table speaks of it.
 impl<'a> LinkTable for Records<'a> {
     ghost kept = { λ l. (list_table l.records.now l.count).kept };
 
@@ -132,10 +107,8 @@ impl<'a> LinkTable for Records<'a> {
         if self.count == 0 {
             return None;
         }
-        match self.position(from, to) {
-            Some(i) => Some(self.records[i].number),
-            None => None,
-        }
+        let place = self.position(from, to)?;
+        Some(self.records[place].number)
     }
 
     fn put(&mut self, from: usize, to: usize, number: u32) -> Result<(), Fault>
@@ -144,19 +117,12 @@ impl<'a> LinkTable for Records<'a> {
         ensures records { self.new.records.now ≡ answered_by result (slice_set self.old.records.now (place_of self.old.records.now from to) (link_of from to number)) self.old.records.now }
         ensures same { self.new.records.ghost_name ≡ self.old.records.ghost_name }
     {
-        if from >= self.count || to >= self.count {
-            return Err(Fault::of_table(Refusal::NoSuchRouter));
-        }
-        if from == to {
-            return Err(Fault::of_table(Refusal::SameRouter));
-        }
+        check_pair(self.count, from, to).map_err(Fault::of_table)?;
         if number == 0 {
             return Err(Fault::of_table(Refusal::NumberOutOfRange));
         }
-        let Some(i) = self.place(from, to) else {
-            return Err(Fault::of_table(Refusal::Full));
-        };
-        self.records[i] = Record { from, to, number };
+        let place = self.place(from, to).ok_or(Fault::of_table(Refusal::Full))?;
+        self.records[place] = Record { from, to, number };
         Ok(())
     }
 
@@ -166,16 +132,11 @@ impl<'a> LinkTable for Records<'a> {
         ensures records { self.new.records.now ≡ answered_by result (slice_set self.old.records.now (held_at self.old.records.now from to) (link_of from to 0)) self.old.records.now }
         ensures same { self.new.records.ghost_name ≡ self.old.records.ghost_name }
     {
-        if from >= self.count || to >= self.count {
-            return Err(Fault::of_table(Refusal::NoSuchRouter));
-        }
-        if from == to {
-            return Err(Fault::of_table(Refusal::SameRouter));
-        }
-        let Some(i) = self.position(from, to) else {
-            return Err(Fault::of_table(Refusal::NotKept));
-        };
-        self.records[i] = Record {
+        check_pair(self.count, from, to).map_err(Fault::of_table)?;
+        let place = self
+            .position(from, to)
+            .ok_or(Fault::of_table(Refusal::NotKept))?;
+        self.records[place] = Record {
             from,
             to,
             number: 0,

@@ -4,14 +4,15 @@ use Rattle.std.proofs.lemmas.Bool.{cases_Bool, and_right, not_from_true}
 use Rattle.masks.specs.Sets.{holds, members, besides}
 use Rattle.masks.proofs.SetLaws.{members_out}
 use Rattle.masks.proofs.MaskLaws.{mask_holds}
-use Rattle.memory.proofs.WriteLaws.{Holds, holds_more}
 use Rattle.decimals.specs.Lists.{listed, item}
 use Rattle.decimals.proofs.ListLaws.{listed_in}
 use Rattle.pagetable.specs.declared.page.Page.{Page}
 use Rattle.pagetable.specs.Pages.{hops_to}
 use Rattle.reports.specs.Reports.{line, tree_text, set_text, entry_text}
 use Rattle.decimals.proofs.NumberLaws.{two_digits}
-use Rattle.reports.proofs.LineLaws.{length_line}
+use Rattle.reports.specs.declared.lines.Text.{Text}
+use Rattle.reports.specs.Texts.{Fits, Adds}
+use Rattle.reports.proofs.LineLaws.{length_line, adds_four}
 
 -- ---- how many bytes two sets take that share no router
 -- a number of a list takes at most two digits and a comma
@@ -69,6 +70,9 @@ other_line set = line (codes "other") (set_text set)
 pub to_bound : (d : ℕ) → d < 32 → length (to_line d) ≤ 6
 to_bound d h = omega (arith, length_line (codes "to") (decimal d), two_digits d (omega arith))
 
+pub tree_bound : (hop : Option ℕ) → length (tree_text hop) ≤ 3 → length (tree_line hop) ≤ 9
+tree_bound hop h = omega (arith, length_line (codes "tree") (tree_text hop))
+
 pub sets_bound : (page : Page) (d : ℕ) (hops : Option ℕ × ℕ × ℕ) → hops ≡ hops_to page d → length (valid_line hops.1) + length (other_line hops.2) ≤ 110
 sets_bound page d hops e =
     let valid : ℕ = get_or page.valid d 0 in
@@ -83,16 +87,12 @@ module _ (page : Page) (d : ℕ) (hops : Option ℕ × ℕ × ℕ) (is : hops �
   unfolding entry_text
   entry_parts = ap (λ t. to_line d ++ tree_line (get_or page.hop d None) ++ valid_line t.1 ++ other_line t.2) is
 
-  pub length_entry : length (entry_text page d) ≡ length (to_line d) + length (tree_line (get_or page.hop d None)) + length (valid_line hops.1) + length (other_line hops.2)
+  length_entry : length (entry_text page d) ≡ length (to_line d) + length (tree_line (get_or page.hop d None)) + length (valid_line hops.1) + length (other_line hops.2)
   length_entry = sym (ap length entry_parts) ∙ simp length-append
 
-  pub entry_holds : (old a b c out : List ℕ) (at i j k end : ℕ) → at + length (entry_text page d) ≤ length old → Holds old a at i (to_line d) → Holds a b i j (tree_line (get_or page.hop d None)) → Holds b c j k (valid_line hops.1) → Holds c out k end (other_line hops.2) → Holds old out at end (entry_text page d)
-  entry_holds old a b c out at i j k end room first second third fourth =
-      let long = length_entry in
-      let e₁ = first.ends in
-      let e₂ = second.ends in
-      let e₃ = third.ends in
-      let two : Holds old b at j (to_line d ++ tree_line (get_or page.hop d None)) = holds_more old a b at i j _ _ first (omega arith) e₂ second.holds in
-      let three : Holds old c at k (to_line d ++ tree_line (get_or page.hop d None) ++ valid_line hops.1) = holds_more old b c at j k _ _ two (omega arith) e₃ third.holds in
-      let four = holds_more old c out at k end _ _ three (omega arith) fourth.ends fourth.holds in
-      subst (Holds old out at end) entry_parts four
+  pub entry_bound : d < 32 → length (tree_text (get_or page.hop d None)) ≤ 3 → length (entry_text page d) ≤ 125
+  entry_bound few small = omega (arith, length_entry, to_bound d few, tree_bound (get_or page.hop d None) small, sets_bound page d hops is)
+
+  pub entry_added : (old a b c new : Text) → Fits old (entry_text page d) → Adds old a (to_line d) → Adds a b (tree_line (get_or page.hop d None)) → Adds b c (valid_line hops.1) → Adds c new (other_line hops.2) → Adds old new (entry_text page d)
+  entry_added old a b c new room first second third fourth =
+      subst (Adds old new) entry_parts (adds_four old a b c new _ _ _ _ (subst (Fits old) (sym entry_parts) room) first second third fourth)

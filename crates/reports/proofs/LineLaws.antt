@@ -1,47 +1,36 @@
--- A line that is put part by part: its key with `=`, its value, and byte 10.
-use Rattle.std.proofs.Common.{◌≡◌, ℕ, ◌+◌, ◌<◌, ◌≤◌, List, [], ◌∷◌, ◌++◌, length, Result, ap, ◌∙◌, subst, append_assoc, arith, length-append}
-use Rattle.std.specs.Result.{result_unwrap_or}
-use Rattle.std.proofs.lemmas.Bool.{cond-true, le-leb}
-use Rattle.faults.specs.declared.refusal.Refusal.{Refusal}
-use Rattle.memory.specs.Writes.{laid, write_answer, write_leaves}
-use Rattle.memory.proofs.WriteLaws.{Holds, holds_more, length_laid}
+-- A text that grows part by part: its lines are a key, `=`, a value, and byte 10.
+use Rattle.std.proofs.Common.{◌≡◌, ℕ, ◌+◌, List, [], ◌∷◌, ◌++◌, length, sym, refl, ◌∙◌, subst, append_assoc, add-zero, arith, length-append}
+use Rattle.memory.proofs.WriteLaws.{holds_more, laid_none}
+use Rattle.reports.specs.declared.lines.Text.{Text}
 use Rattle.reports.specs.Reports.{line}
+use Rattle.reports.specs.Texts.{Fits, Adds}
 
--- the key with `=`
-abbrev pub key_text : List ℕ → List ℕ
-key_text key = key ++ 61 ∷ []
-
--- a line is its key with `=`, its value, and one byte more
-line_parts : (key value : List ℕ) → key_text key ++ value ++ 10 ∷ [] ≡ line key value
+-- a line is its key, `=`, its value, and byte 10
+line_parts : (key value : List ℕ) → key ++ 61 ∷ [] ++ value ++ 10 ∷ [] ≡ line key value
 line_parts key value = simp append_assoc
 
-pub length_line : (key value : List ℕ) → length (line key value) ≡ length (key_text key) + length value + 1
-length_line key value =
-    omega (arith, ap length (line_parts key value), length-append (key_text key ++ value) (10 ∷ []), length-append (key_text key) value)
+pub length_line : (key value : List ℕ) → length (line key value) ≡ length key + length value + 2
+length_line key value = simp length-append (omega arith)
 
--- a write for which there is room is granted, and answers the place behind it
-pub holds_write : (old out : List ℕ) (at place : ℕ) (items : List ℕ) (r : Result ℕ Refusal) → at + length items ≤ length old → r ≡ write_answer old at items → out ≡ write_leaves old at items → place ≡ result_unwrap_or r at → Holds old out at place items
-holds_write old out at place items r room answer leaves end =
-    let fits = le-leb (at + length items) (length old) room in
-    record {
-      ends = end ∙ ap (λ a. result_unwrap_or a at) (answer ∙ cond-true _ _ _ fits);
-      holds = leaves ∙ cond-true _ _ _ fits;
-    }
+pub adds_none : (text : Text) → Adds text text []
+adds_none text = record { same_memory = refl; same_length = refl; place = sym (add-zero text.at); stands = sym (laid_none text.out.now text.at) }
 
--- the value behind the key, and byte 10 behind the value
-module _ (old : List ℕ) (at : ℕ) (key value : List ℕ) (room : at + length (line key value) ≤ length old) where
-  pub value_holds : (keyed out : List ℕ) (start end : ℕ) (r : Result ℕ Refusal) → Holds old keyed at start (key_text key) → r ≡ write_answer keyed start value → out ≡ write_leaves keyed start value → end ≡ result_unwrap_or r start → Holds old out at end (key_text key ++ value)
-  value_holds keyed out start end r k answer leaves e =
-      let long = length_line key value in
-      let ends = k.ends in
-      let same : length keyed ≡ length old = ap length k.holds ∙ length_laid old at (key_text key) (omega arith) in
-      let v = holds_write keyed out start end value r (omega arith) answer leaves e in
-      holds_more old keyed out at start end (key_text key) value k (omega arith) v.ends v.holds
+-- one part behind another
+pub adds_more : (old mid new : Text) (bytes more : List ℕ) → Fits old bytes → Adds old mid bytes → Adds mid new more → Adds old new (bytes ++ more)
+adds_more old mid new bytes more room a b =
+    let h = holds_more old.out.now mid.out.now new.out.now old.at mid.at new.at bytes more (record { ends = a.place; holds = a.stands }) (omega (arith, a.place)) b.place b.stands in
+    record { same_memory = b.same_memory ∙ a.same_memory; same_length = b.same_length ∙ a.same_length; place = h.ends; stands = h.holds }
 
-  pub value_ends : (out : List ℕ) (end : ℕ) → Holds old out at end (key_text key ++ value) → end < length old
-  value_ends out end h = omega (arith, h.ends, length_line key value, length-append (key_text key) value)
+-- four parts, one behind the other
+pub adds_four : (old a b c new : Text) (p q r s : List ℕ) → Fits old (p ++ q ++ r ++ s) → Adds old a p → Adds a b q → Adds b c r → Adds c new s → Adds old new (p ++ q ++ r ++ s)
+adds_four old a b c new p q r s room first second third fourth =
+    let all = length-append (p ++ q ++ r) s in
+    let front = length-append (p ++ q) r in
+    let two = adds_more old a b p q (omega (arith, length-append p q)) first second in
+    let three = adds_more old b c (p ++ q) r (omega arith) two third in
+    adds_more old c new (p ++ q ++ r) s (omega arith) three fourth
 
-  pub line_holds : (out next : List ℕ) (end then : ℕ) → Holds old out at end (key_text key ++ value) → then ≡ end + 1 → next ≡ laid out end (10 ∷ []) → Holds old next at then (line key value)
-  line_holds out next end then h t n =
-      let last = value_ends out end h in
-      subst (Holds old next at then) (line_parts key value) (holds_more old out next at end then (key_text key ++ value) (10 ∷ []) h (omega arith) t n)
+-- a line is added by its four parts
+pub line_added : (old a b c new : Text) (key value : List ℕ) → Fits old (line key value) → Adds old a key → Adds a b (61 ∷ []) → Adds b c value → Adds c new (10 ∷ []) → Adds old new (line key value)
+line_added old a b c new key value room first second third fourth =
+    subst (Adds old new) (line_parts key value) (adds_four old a b c new key (61 ∷ []) value (10 ∷ []) (subst (Fits old) (sym (line_parts key value)) room) first second third fourth)

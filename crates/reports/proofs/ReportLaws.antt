@@ -3,12 +3,13 @@ use Rattle.std.proofs.Common.{◌≡◌, ℕ, ◌+◌, ◌*◌, ◌<◌, ◌≤�
 use Rattle.std.proofs.lemmas.List.{append-nil}
 use Rattle.std.proofs.lemmas.Bool.{cond-true, cond-false, eq-eqb, ne_eqb}
 use Rattle.decimals.proofs.NumberLaws.{two_digits}
-use Rattle.memory.proofs.WriteLaws.{Holds, holds_none, holds_more}
 use Rattle.routes.specs.Lists.{gather}
 use Rattle.routes.proofs.Gathered.{gather_more}
 use Rattle.pagetable.specs.declared.page.Page.{Page}
+use Rattle.reports.specs.declared.lines.Text.{Text}
 use Rattle.reports.specs.Reports.{line, entry_text, report_text}
-use Rattle.reports.proofs.LineLaws.{length_line}
+use Rattle.reports.specs.Texts.{Fits, Adds}
+use Rattle.reports.proofs.LineLaws.{length_line, adds_more, adds_none}
 
 abbrev pub root_line : ℕ → List ℕ
 root_line root = line (codes "root") (decimal root)
@@ -20,38 +21,31 @@ root_bound root h = omega (arith, length_line (codes "root") (decimal root), two
 abbrev pub towards : ℕ → Page → ℕ → List ℕ
 towards root page d = cond (eqb d root) [] (entry_text page d)
 
--- the lines towards the routers below d stand there, at most 125 bytes for each
-pub record Grown (old out : List ℕ) (at place root : ℕ) (page : Page) (d : ℕ) : Type 0 where
-  pub stands : Holds old out at place (gather d (towards root page))
+-- the lines towards the routers below d were added, at most 125 bytes for each
+pub record Grown (old new : Text) (root : ℕ) (page : Page) (d : ℕ) : Type 0 where
+  pub adds : Adds old new (gather d (towards root page))
   pub bound : length (gather d (towards root page)) ≤ 125 * d
 
-module _ (old : List ℕ) (at root : ℕ) (page : Page) where
-  pub grown_none : Grown old old at at root page 0
+module _ (old : Text) (root : ℕ) (page : Page) where
+  pub grown_none : Grown old old root page 0
   unfolding gather
-  grown_none = record { stands = holds_none old at; bound = omega arith }
-
-  -- the same of a memory and a place under other names
-  pub grown_same : {out other : List ℕ} {place same d : ℕ} → other ≡ out → same ≡ place → Grown old out at place root page d → Grown old other at same root page d
-  grown_same o p g = record { stands = record { ends = p ∙ g.stands.ends; holds = o ∙ g.stands.holds }; bound = g.bound }
+  grown_none = record { adds = adds_none old; bound = omega arith }
 
   -- the root has no lines
-  pub grown_root : (out : List ℕ) (place d : ℕ) → Grown old out at place root page d → d ≡ root → Grown old out at place root page (d + 1)
-  grown_root out place d g e =
+  pub grown_root : (new : Text) (d : ℕ) → Grown old new root page d → d ≡ root → Grown old new root page (d + 1)
+  grown_root new d g e =
       let none : towards root page d ≡ [] = cond-true _ _ _ (eq-eqb d root e) in
       let same : gather d (towards root page) ≡ gather (d + 1) (towards root page) = sym (gather_more d (towards root page) ∙ ap (λ t. gather d (towards root page) ++ t) none ∙ append-nil _) in
-      record {
-        stands = subst (Holds old out at place) same g.stands;
-        bound = omega (arith, g.bound, ap length same);
-      }
+      record { adds = subst (Adds old new) same g.adds; bound = omega (arith, g.bound, ap length same) }
 
   -- another router has its four lines
-  pub grown_entry : (out next : List ℕ) (place then d : ℕ) → Grown old out at place root page d → (d ≡ root → ⊥) → place ≤ length old → Holds out next place then (entry_text page d) → length (entry_text page d) ≤ 125 → Grown old next at then root page (d + 1)
-  grown_entry out next place then d g ne room h small =
+  pub grown_entry : (new next : Text) (d : ℕ) → old.at + 125 * d ≤ length old.out.now → Grown old new root page d → (d ≡ root → ⊥) → Adds new next (entry_text page d) → length (entry_text page d) ≤ 125 → Grown old next root page (d + 1)
+  grown_entry new next d room g ne more small =
       let entry : towards root page d ≡ entry_text page d = cond-false _ _ _ (ne_eqb d root ne) in
-      let more : gather d (towards root page) ++ entry_text page d ≡ gather (d + 1) (towards root page) = sym (gather_more d (towards root page) ∙ ap (λ t. gather d (towards root page) ++ t) entry) in
+      let longer : gather d (towards root page) ++ entry_text page d ≡ gather (d + 1) (towards root page) = sym (gather_more d (towards root page) ∙ ap (λ t. gather d (towards root page) ++ t) entry) in
       record {
-        stands = subst (Holds old next at then) more (holds_more old out next at place then _ (entry_text page d) g.stands room h.ends h.holds);
-        bound = omega (arith, g.bound, small, ap length more, length-append (gather d (towards root page)) (entry_text page d));
+        adds = subst (Adds old next) longer (adds_more old new next _ _ (omega (arith, g.bound)) g.adds more);
+        bound = omega (arith, g.bound, small, ap length longer, length-append (gather d (towards root page)) (entry_text page d));
       }
 
 -- the whole report
@@ -60,8 +54,8 @@ module _ (count root : ℕ) (page : Page) where
   unfolding report_text
   report_parts = refl
 
-  pub report_holds : (old first out : List ℕ) (start place : ℕ) → start ≤ length old → Holds old first 0 start (root_line root) → Grown first out start place root page count → Holds old out 0 place (report_text count root page)
-  report_holds old first out start place room h g = subst (Holds old out 0 place) report_parts (holds_more old first out 0 start place _ _ h room g.stands.ends g.stands.holds)
+  pub report_added : (old first new : Text) → Fits old (root_line root) → Adds old first (root_line root) → Grown first new root page count → Adds old new (report_text count root page)
+  report_added old first new room a g = subst (Adds old new) report_parts (adds_more old first new _ _ room a g.adds)
 
-  pub report_bound : (old out : List ℕ) (at place : ℕ) → root < 32 → count ≤ 32 → Grown old out at place root page count → length (report_text count root page) ≤ 4096
-  report_bound old out at place r n g = omega (arith, root_bound root r, g.bound, length-append (root_line root) (gather count (towards root page)), ap length report_parts)
+  pub report_bound : (old new : Text) → root < 32 → count ≤ 32 → Grown old new root page count → length (report_text count root page) ≤ 4096
+  report_bound old new r n g = omega (arith, root_bound root r, g.bound, length-append (root_line root) (gather count (towards root page)), ap length report_parts)

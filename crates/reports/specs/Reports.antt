@@ -8,6 +8,8 @@ use Rattle.decimals.specs.Lists.{listed}
 use Rattle.routes.specs.Lists.{gather}
 use Rattle.pagetable.specs.declared.page.Page.{Page}
 use Rattle.pagetable.specs.Pages.{hops_to}
+use Rattle.reports.specs.declared.lines.Value.{Value}
+use Rattle.reports.specs.declared.lines.Value.TheVariants.{Number, Set, Nothing}
 
 -- a line is a key, `=`, a value and byte 10
 abbrev pub line : List ℕ → List ℕ → List ℕ
@@ -21,6 +23,12 @@ tree_text None = []
 -- a set is written as its numbers, rising, with commas
 abbrev pub set_text : ℕ → List ℕ
 set_text mask = listed (members mask 32)
+
+-- what stands behind the `=` of a line
+abbrev pub value_text : Value → List ℕ
+value_text (Number n) = decimal n
+value_text (Set mask) = set_text mask
+value_text Nothing = []
 
 -- the four lines towards the router d: itself, its tree hop, its valid hops and its other hops
 unfoldable pub entry_text : Page → ℕ → List ℕ

@@ -1,58 +1,54 @@
-ghost use Rattle.std.specs.Prelude.{◌≡◌, ◌+◌, ◌<◌, ◌≤◌, [], ◌∷◌, ◌++◌, length, decimal};
-ghost use Rattle.memory.specs.Writes.{laid};
-ghost use Rattle.reports.specs.Reports.{line, set_text};
+// A text of lines, each a key, `=`, a value and byte 10.
+ghost use Rattle.reports.specs.Texts.{Fits, Adds};
+ghost use Rattle.reports.specs.Reports.{line, value_text};
 
 use decimals::{write_number, write_set};
 use memory::write;
 
-// Puts one byte, and answers the place behind it.
-fn put_byte(out: &mut [u8], at: usize, b: u8) -> usize
-    requires { at < length out.old }
-    ensures place { result ≡ at + 1 }
-    ensures bytes { out.new ≡ laid out.old at (b ∷ []) }
-{
-    out[at] = b;
-    at + 1
+// What stands behind the `=` of a line.
+pub(crate) enum Value {
+    Number(u32),
+    Set(u32),
+    Nothing,
 }
 
-// Puts the key of a line and `=`, and answers the place behind them.
-fn put_key(out: &mut [u8], at: usize, key: &[u8]) -> usize
-    requires { at + length (key.now ++ 61 ∷ []) ≤ length out.old }
-    ensures place { result ≡ at + length (key.now ++ 61 ∷ []) }
-    ensures bytes { out.new ≡ laid out.old at (key.now ++ 61 ∷ []) }
-{
-    let end = write(out, at, key).unwrap_or(at);
-    put_byte(out, end, b'=')
+// A text that grows in handed memory: what is added next stands from the place `at` on.
+// kept: a place beside the memory and no `Vec` or `String`, since the caller hands the memory and nothing here allocates.
+#[derive(Drop)]
+pub(crate) struct Text<'a> {
+    pub(crate) out: &'a mut [u8],
+    pub(crate) at: usize,
 }
 
-// Puts a line whose value is a number, and answers the place behind it.
-pub(crate) fn put_number_line(out: &mut [u8], at: usize, key: &[u8], n: u32) -> usize
-    requires { at + length (line key.now (decimal n)) ≤ length out.old }
-    ensures place { result ≡ at + length (line key.now (decimal n)) }
-    ensures bytes { out.new ≡ laid out.old at (line key.now (decimal n)) }
-{
-    let value = put_key(out, at, key);
-    let end = write_number(out, value, n).unwrap_or(value);
-    put_byte(out, end, b'\n')
-}
+impl Text<'_> {
+    // Adds these bytes.
+    fn add(&mut self, bytes: &[u8])
+        requires { Fits self.old bytes.now }
+        ensures { Adds self.old self.new bytes.now }
+    {
+        self.at = write(self.out, self.at, bytes).unwrap();
+    }
 
-// Puts a line whose value is a set, and answers the place behind it.
-pub(crate) fn put_set_line(out: &mut [u8], at: usize, key: &[u8], mask: u32) -> usize
-    requires { at + length (line key.now (set_text mask)) ≤ length out.old }
-    ensures place { result ≡ at + length (line key.now (set_text mask)) }
-    ensures bytes { out.new ≡ laid out.old at (line key.now (set_text mask)) }
-{
-    let value = put_key(out, at, key);
-    let end = write_set(out, value, mask).unwrap_or(value);
-    put_byte(out, end, b'\n')
-}
+    // Adds a value.
+    fn add_value(&mut self, value: Value)
+        requires { Fits self.old (value_text value) }
+        ensures { Adds self.old self.new (value_text value) }
+    {
+        self.at = match value {
+            Value::Number(n) => write_number(self.out, self.at, n).unwrap(),
+            Value::Set(mask) => write_set(self.out, self.at, mask).unwrap(),
+            Value::Nothing => self.at,
+        };
+    }
 
-// Puts a line without a value, and answers the place behind it.
-pub(crate) fn put_empty_line(out: &mut [u8], at: usize, key: &[u8]) -> usize
-    requires { at + length (line key.now []) ≤ length out.old }
-    ensures place { result ≡ at + length (line key.now []) }
-    ensures bytes { out.new ≡ laid out.old at (line key.now []) }
-{
-    let value = put_key(out, at, key);
-    put_byte(out, value, b'\n')
+    // Adds a line.
+    pub(crate) fn add_line(&mut self, key: &[u8], value: Value)
+        requires { Fits self.old (line key.now (value_text value)) }
+        ensures { Adds self.old self.new (line key.now (value_text value)) }
+    {
+        self.add(key);
+        self.add(b"=");
+        self.add_value(value);
+        self.add(b"\n");
+    }
 }

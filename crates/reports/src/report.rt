@@ -1,26 +1,25 @@
-ghost use Rattle.std.specs.Prelude.{◌≡◌, ◌<◌, ◌≤◌, length};
-ghost use Rattle.memory.specs.Writes.{laid};
+ghost use Rattle.std.specs.Prelude.{◌≡◌, ◌<◌, ◌≤◌, ◌+◌, length};
+ghost use Rattle.reports.specs.Texts.{Adds};
 ghost use Rattle.reports.specs.Reports.{report_text, report_answer, report_leaves};
 
-use crate::entries::put_entry;
-use crate::lines::put_number_line;
+use crate::lines::{Text, Value};
 use faults::Refusal;
 use pagetable::Page;
 
-// Puts the report to the front of a memory of 4,096 bytes at least, and answers the place behind it.
-fn put_report(page: &Page, count: usize, root: usize, out: &mut [u8]) -> usize
-    requires { (count ≤ 32) × (root < count) × (4096 ≤ length out.old) }
-    ensures place { result ≡ length (report_text count root page.now) }
-    ensures bytes { out.new ≡ laid out.old 0 (report_text count root page.now) }
-    ensures bound { length (report_text count root page.now) ≤ 4096 }
-{
-    let mut place = put_number_line(out, 0, b"root", root as u32);
-    for d in 0..count {
-        if d != root {
-            place = put_entry(page, d, out, place);
+impl Text<'_> {
+    // Adds the report of a page, which takes at most 4,096 bytes.
+    fn add_report(&mut self, page: &Page, count: usize, root: usize)
+        requires { (count ≤ 32) × (root < count) × (self.old.at + 4096 ≤ length self.old.out.now) }
+        ensures text { Adds self.old self.new (report_text count root page.now) }
+        ensures bound { length (report_text count root page.now) ≤ 4096 }
+    {
+        self.add_line(b"root", Value::Number(root as u32));
+        for d in 0..count {
+            if d != root {
+                self.add_entry(page, d);
+            }
         }
     }
-    place
 }
 
 // Writes the report of a page to the front of the memory and answers how many bytes it has.
@@ -40,5 +39,7 @@ pub fn write_report(
     if out.len() < 4096 {
         return Err(Refusal::MemoryTooShort);
     }
-    Ok(put_report(page, count, root, out))
+    let mut text = Text { out, at: 0 };
+    text.add_report(page, count, root);
+    Ok(text.at)
 }

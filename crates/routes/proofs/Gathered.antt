@@ -1,15 +1,7 @@
--- Lists gathered over one number more, and the masks of two crates.
-use Rattle.std.proofs.Common.{◌≡◌, ℕ, zero, suc, ◌+◌, ◌^◌, Bool, cond, List, ◌++◌, refl, ap, add-one}
-use Rattle.masks.specs.Sets.{mask}
+-- Lists gathered over one number more.
+use Rattle.std.proofs.Common.{◌≡◌, ℕ, ◌+◌, List, ◌++◌, refl, add-one}
 use Rattle.routes.specs.Lists.{gather}
-use Rattle.routes.specs.Lists as routes
 
 pub gather_more : {A : Type 0} (n : ℕ) (f : ℕ → List A) → gather (n + 1) f ≡ gather n f ++ f n
 unfolding gather
 gather_more n f = rw add-one refl
-
--- the mask of the definitions of routes is the mask of sets
-pub same_mask : (n : ℕ) (p : ℕ → Bool) → routes.mask n p ≡ mask n p
-unfolding mask routes.mask
-same_mask zero p = refl
-same_mask (suc n) p = ap (λ m. m + cond (p n) (2 ^ n) 0) (same_mask n p)

@@ -2,7 +2,6 @@ pub mod Order
 pub mod Members
 pub mod Sizes
 pub mod Ranks
-pub mod Masks
 pub mod Gathered
 pub mod Standing
 pub mod Routes

@@ -2,9 +2,9 @@
 use Rattle.std.proofs.Common.{[], ◌∷◌, sym, refl, ap, ◌∙◌, lit<, lit≤}
 use Rattle.costs.specs.SumLaws.{sum_lawful}
 use Rattle.costs.specs.PathLaws.{path_lawful}
-use Rattle.masks.specs.Sets.{members}
+use Rattle.masks.specs.Sets.{members, mask}
 use Rattle.routes.specs.Leasts.{lesser, joined, same, below, least_below}
-use Rattle.routes.specs.Lists.{lowest, mask}
+use Rattle.routes.specs.Lists.{lowest}
 use Rattle.routes.specs.Network.{Sound}
 use Rattle.routes.specs.Routes.{stay, go}
 use Rattle.routes.specs.Walk.{picked}

@@ -1,8 +1,9 @@
 -- A page depends on the fathers of its own root only.
 use Rattle.std.proofs.Common.{◌≡◌, ℕ, zero, suc, cond, not, ◌&&◌, eqb, [], ◌∷◌, ◌++◌, is_some, Some, None, refl}
 use mathlib.Core.Path.{fun_ext}
+use Rattle.masks.specs.Sets.{mask}
 use Rattle.routes.specs.Leasts.{below, joined, least_of, onward}
-use Rattle.routes.specs.Lists.{gather, mask, is_number, listed, when_some}
+use Rattle.routes.specs.Lists.{gather, is_number, listed, when_some}
 use Rattle.routes.specs.Network.{Network}
 use Rattle.routes.specs.Routes.{best}
 use Rattle.routes.specs.Tree.{Fathers, path_in, path, hop_in, hop, fall_in, fall}

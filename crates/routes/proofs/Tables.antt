@@ -1,53 +1,40 @@
 -- The best costs, fathers, tree hops and rest costs by tables, which compute quickly.
-use Rattle.std.proofs.Common.{◌≡◌, ℕ, zero, suc, ◌+◌, ◌-◌, ◌<◌, Bool, true, false, cond, not, ◌&&◌, eqb, ◌⊎◌, List, [], ◌∷◌, ◌++◌, is_some, Some, None, Option, sym, refl, ap, ◌∙◌, subst, ap₂, ⊎_elim, add-zero, add-suc, suc-add, zero-add, arith}
+use Rattle.std.proofs.Common.{◌≡◌, ℕ, zero, suc, ◌-◌, ◌<◌, Bool, true, false, cond, not, ◌&&◌, eqb, ◌⊎◌, List, [], ◌∷◌, ◌++◌, map, get_or, is_some, Some, None, Option, sym, refl, ap, ◌∙◌, subst, ap₂, ⊎_elim, zero-add, arith}
 use mathlib.Core.Path.{fun_ext}
+use Rattle.std.specs.List.{range_with_len}
+use Rattle.std.proofs.lemmas.List.FromFn.{get_or-map-range_with_len}
 use mathlib.Core.List.Memᴰ
 use mathlib.Core.List.{Memᴰ}
 use Rattle.costs.specs.Costs.{Costs, Laws}
-use Rattle.masks.specs.Sets.{members}
+use Rattle.masks.specs.Sets.{members, mask}
 use Rattle.routes.specs.Leasts.{lesser, joined, same, below, least_of, least_below, onward}
-use Rattle.routes.specs.Lists.{gather, lowest, mask, is_number, listed, when_some}
+use Rattle.routes.specs.Lists.{gather, lowest, is_number, listed, when_some}
 use Rattle.routes.specs.Network.{Network, Sound}
 use Rattle.routes.specs.Routes.{avoids, best}
 use Rattle.routes.specs.Tree.{Fathers, Chooses, possible_father, lowest_father, hop_in, hop, fall_in, fall}
 use Rattle.routes.specs.Transverse.{starts, climbs, descents, rest, valid, other, valid_set, other_set}
 use Rattle.routes.specs.Walk.{picked, walk}
+use Rattle.masks.proofs.MaskLaws.{mask_same}
 use Rattle.routes.proofs.Members.{onward_has, in_onward}
 use Rattle.routes.proofs.Order.{unique, same_least, least_list, least_lesser, least_joined}
 use Rattle.routes.proofs.Routes.{rounds, best_rounds}
 use Rattle.routes.proofs.Fathers.{father_is, lowest_chooses}
 
 abbrev pub nth : {A : Type 0} → List (Option A) → ℕ → Option A
-nth [] i = None
-nth (x ∷ xs) zero = x
-nth (x ∷ xs) (suc i) = nth xs i
-
-abbrev tab_from : {A : Type 0} → ℕ → ℕ → (ℕ → Option A) → List (Option A)
-tab_from i zero f = []
-tab_from i (suc k) f = f i ∷ tab_from (suc i) k f
+nth xs i = get_or xs i None
 
 -- the values of f at 0 to n - 1
 abbrev pub tab : {A : Type 0} → ℕ → (ℕ → Option A) → List (Option A)
-tab n f = tab_from 0 n f
-
-nth_from : {A : Type 0} (k i j : ℕ) (f : ℕ → Option A) → j < k → nth (tab_from i k f) j ≡ f (i + j)
-nth_from zero i j f h = absurd (omega arith)
-nth_from (suc k) i zero f h = ap f (sym (add-zero i))
-nth_from (suc k) i (suc j) f h = nth_from k (suc i) j f (omega arith) ∙ ap f (suc-add i j ∙ sym (add-suc i j))
+tab n f = map f (range_with_len 0 n)
 
 pub nth_tab : {A : Type 0} (n i : ℕ) (f : ℕ → Option A) → i < n → nth (tab n f) i ≡ f i
-nth_tab n i f h = nth_from n 0 i f h ∙ ap f (zero-add i)
+nth_tab n i f h = get_or-map-range_with_len f 0 n i i None h (zero-add i)
 
 lowest_same : (n : ℕ) (p q : ℕ → Bool) → ((x : ℕ) → x < n → p x ≡ q x) → lowest n p ≡ lowest n q
 unfolding lowest
 lowest_same zero p q h = refl
 lowest_same (suc n) p q h =
     ap₂ {C = Option ℕ} (λ (o : Option ℕ) (t : Bool). elim o [ Some x ↦ Some x | None ↦ cond t (Some n) None ]) (lowest_same n p q (λ x l. h x (omega arith))) (h n (omega arith))
-
-mask_same : (n : ℕ) (p q : ℕ → Bool) → ((x : ℕ) → x < n → p x ≡ q x) → mask n p ≡ mask n q
-unfolding mask
-mask_same zero p q h = refl
-mask_same (suc n) p q h = rw (mask_same n p q (λ x l. h x (omega arith)), h n (omega arith)) refl
 
 module _ {Cost : Type 0} (K : Costs Cost) where
   below_same : (n : ℕ) (f g : ℕ → Option Cost) → ((x : ℕ) → x < n → f x ≡ g x) → least_below K n f ≡ least_below K n g

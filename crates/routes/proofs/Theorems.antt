@@ -9,7 +9,7 @@ use Rattle.routes.specs.Tree.{Fathers, Chooses}
 use Rattle.routes.specs.Transverse.{Transverse, rest, valid, other, valid_set, other_set}
 use Rattle.routes.specs.Theorems.{StandingIsSound, StandingIsTwoWay, BestIsLeast, RoutesAreShort, LowestFatherChooses, FatherIsLowest, TreeStands, PathStands, RestIsLeast, TreeHopIsValid, TransverseRoutesAvoid, ValidIsNearer, SecondCandidate, NothingWithoutRoute, SetsAreMasks, OwnFathersMatter, HopsArrive, EveryPickArrives, WalkArrives, RelaxedIsBest, SettlingSteps, PassesSolve, ClimbingSteps, WholeCostNeverBelow}
 use Rattle.routes.proofs.Members.{some_inj, present_some}
-use Rattle.routes.proofs.Masks.{mask_fits, mask_holds}
+use Rattle.masks.proofs.MaskLaws.{mask_fits, mask_holds}
 use Rattle.routes.proofs.Order.{least_at, least_some}
 use Rattle.routes.proofs.Standing.{standing_sound, standing_two_way}
 use Rattle.routes.proofs.Routes.{go_at, widen, best_bounded, best_least, short, end_below}

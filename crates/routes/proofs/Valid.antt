@@ -1,14 +1,14 @@
 -- Valid hops: the tree hop is one, each comes strictly nearer, and so every walk by them arrives.
-use Rattle.std.proofs.Common.{◌≡◌, ℕ, zero, suc, ◌+◌, ◌<◌, ◌≤◌, Bool, true, false, ◌⊎◌, Some, None, Option, sym, refl, ◌∙◌, subst, inl, inr, ⊎_elim, arith}
+use Rattle.std.proofs.Common.{◌≡◌, ℕ, ◌+◌, ◌<◌, ◌≤◌, true, false, ◌⊎◌, Some, None, Option, sym, refl, ◌∙◌, subst, inl, inr, ⊎_elim, arith}
 use Rattle.std.proofs.lemmas.Bool.{both_ways, cases_eq}
 use Rattle.costs.specs.Costs.{Costs}
 use Rattle.routes.specs.Leasts.{IsLeast, below}
-use Rattle.routes.specs.Lists.{mask}
 use Rattle.routes.specs.Network.{Network, Sound}
 use Rattle.routes.specs.Routes.{Route, best}
 use Rattle.routes.specs.Tree.{hop, fall, Falls, Fathers, Chooses}
 use Rattle.routes.specs.Transverse.{Transverse, rest, valid, other, valid_set, other_set}
 use Rattle.routes.specs.Walk.{Hops, here, next}
+use Rattle.masks.proofs.MaskLaws.{mask_none}
 use Rattle.routes.proofs.Members.{none_some, some_inj, cases_option}
 use Rattle.routes.proofs.Order.{higher, le_lt, unique, least_at, least_some}
 use Rattle.routes.proofs.Ranks.{rank, rank_below, rank_less}
@@ -23,11 +23,6 @@ unfolding below
 below_both K None o' e = absurd (both_ways false refl e)
 below_both K (Some a) None e = absurd (both_ways false refl e)
 below_both K (Some a) (Some b) e = (a, b, refl, refl, e)
-
-mask_none : (n : ℕ) (p : ℕ → Bool) → ((v : ℕ) → p v ≡ false) → mask n p ≡ 0
-unfolding mask
-mask_none zero p h = refl
-mask_none (suc n) p h = rw (mask_none n p h, h n) refl
 
 module _ {Cost : Type 0} (N : Network Cost) (sound : Sound N) where
   -- how many routers are nearer to d
@@ -113,7 +108,7 @@ module _ {Cost : Type 0} (N : Network Cost) (sound : Sound N) (father : Fathers)
   -- without a transverse route both sets are empty
   pub no_rest : (root d : ℕ) → ((v : ℕ) → rest N father root v d ≡ None) → (valid_set N father root d ≡ 0) × (other_set N father root d ≡ 0)
   unfolding valid_set other_set valid other below
-  no_rest root d h = (mask_none N.count _ (λ v. rw (h v) refl), mask_none N.count _ (λ v. rw (h v) refl))
+  no_rest root d h = (mask_none N.count _ (λ v _. rw (h v) refl), mask_none N.count _ (λ v _. rw (h v) refl))
 
   pub nothing : (root d : ℕ) → (d ≡ root) ⊎ (best N root d ≡ None) → (hop N father root d ≡ None) × (valid_set N father root d ≡ 0) × (other_set N father root d ≡ 0)
   nothing root d e = (no_hop, sets.0, sets.1)

@@ -10,7 +10,7 @@ use Rattle.routes.specs.Routes.{best}
 use Rattle.routes.specs.Tree.{Fathers, Chooses}
 use Rattle.routes.specs.Transverse.{valid, valid_set}
 use Rattle.routes.specs.Walk.{Arrives, there, step, picked, walk, last_of}
-use Rattle.routes.proofs.Masks.{mask_holds, members_held, held_members}
+use Rattle.masks.proofs.MaskLaws.{mask_holds, members_held, held_members}
 use Rattle.routes.proofs.Branches.{branched}
 use Rattle.routes.proofs.Transverses.{hop_below}
 use Rattle.routes.proofs.Valid.{near, valid_near, valid_nearer, tree_valid}

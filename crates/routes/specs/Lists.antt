@@ -1,5 +1,5 @@
 -- Lists and choices over the numbers below a bound.
-use Rattle.std.specs.Prelude.{ℕ, zero, suc, ◌+◌, ◌^◌, Bool, false, cond, List, [], ◌∷◌, ◌++◌, Some, None, Option, ◌==◌}
+use Rattle.std.specs.Prelude.{ℕ, zero, suc, Bool, false, cond, List, [], ◌∷◌, ◌++◌, Some, None, Option, ◌==◌}
 
 -- the lists of 0 to n - 1, one after the other
 unfoldable pub gather : {A : Type 0} → ℕ → (ℕ → List A) → List A
@@ -10,11 +10,6 @@ gather (suc n) f = gather n f ++ f n
 unfoldable pub lowest : ℕ → (ℕ → Bool) → Option ℕ
 lowest zero p = None
 lowest (suc n) p = elim (lowest n p) [ Some x ↦ Some x | None ↦ cond (p n) (Some n) None ]
-
--- the set of the numbers below n that pass the test, as a mask
-unfoldable pub mask : ℕ → (ℕ → Bool) → ℕ
-mask zero p = 0
-mask (suc n) p = mask n p + cond (p n) (2 ^ n) 0
 
 -- what to make of a value that may be absent
 abbrev pub when_some : {A B : Type 0} → Option A → B → (A → B) → B

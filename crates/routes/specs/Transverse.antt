@@ -1,7 +1,8 @@
 -- Transverse routes of a root's neighbours, rest costs, and valid hops.
 use Rattle.std.specs.Prelude.{◌≡◌, ℕ, zero, suc, Bool, cond, not, ◌&&◌, ◌≢◌, List, [], ◌∷◌, ◌++◌, is_some, Some, Option, ◌==◌}
+use Rattle.masks.specs.Sets.{mask}
 use Rattle.routes.specs.Leasts.{below, least_of, onward}
-use Rattle.routes.specs.Lists.{gather, mask, is_number, listed, when_some}
+use Rattle.routes.specs.Lists.{gather, is_number, listed, when_some}
 use Rattle.routes.specs.Network.{Network}
 use Rattle.routes.specs.Routes.{best}
 use Rattle.routes.specs.Tree.{Fathers, neighbour, hop, in_branch, fall, Falls}

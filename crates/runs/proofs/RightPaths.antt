@@ -9,7 +9,7 @@ use Rattle.faults.specs.declared.refusal.Refusal.{Refusal}
 use Rattle.faults.specs.declared.refusal.Refusal.TheVariants.{NoSuchRouter, MemoryTooShort, StalePage, NoRoute}
 use Rattle.memory.specs.Writes.{laid}
 use Rattle.pagetable.specs.Pages.{is_current, page_of, path_by}
-use Rattle.passes.proofs.Orders.{at_table}
+use Rattle.settling.proofs.Orders.{at_table}
 use Rattle.routes.specs.Lists.{when_some}
 use Rattle.routes.specs.Network.{Network, Sound}
 use Rattle.routes.specs.Tree.{lowest_father, path_in, path}

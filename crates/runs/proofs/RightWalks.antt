@@ -16,7 +16,7 @@ use Rattle.memory.specs.Writes.{laid}
 use Rattle.pagetable.specs.Pages.{is_current, page_of, hops_to}
 use Rattle.pagetable.specs.Walks.{walk_by, valid_sets, all_current}
 use Rattle.pagetable.specs.declared.table.PageTable.{PageTable}
-use Rattle.passes.proofs.Orders.{at_table}
+use Rattle.settling.proofs.Orders.{at_table}
 use Rattle.routes.specs.Lists.{when_some}
 use Rattle.routes.specs.Network.{Network, Sound}
 use Rattle.routes.specs.Routes.{best}

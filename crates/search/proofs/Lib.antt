@@ -1,7 +1,5 @@
-pub mod Squares
 pub mod Offers
 pub mod Rounds
 pub mod Shorts
 pub mod Lines
 pub mod Loops
-pub mod Befores

@@ -1,13 +1,13 @@
 -- What holds each time an entry is about to be taken from the waiting list.
-use Rattle.std.proofs.Common.{◌≡◌, ℕ, zero, suc, ◌+◌, ◌-◌, ◌*◌, ◌/◌, ◌%◌, ◌^◌, ◌<◌, ◌≤◌, Bool, true, false, cond, ◌&&◌, eqb, ltb, List, ◌∷◌, ◌++◌, length, get_or, take, drop, is_some, Some, None, Option, sym, refl, ap, ◌∙◌, subst, ap₂, subst₂, ⊎_elim, mul-le-mul_left, mul-suc, arith}
+use Rattle.std.proofs.Common.{◌≡◌, ℕ, zero, suc, ◌+◌, ◌-◌, ◌*◌, ◌/◌, ◌%◌, ◌^◌, ◌<◌, ◌≤◌, Bool, true, false, cond, ◌&&◌, eqb, ltb, List, [], ◌∷◌, ◌++◌, length, get_or, take, drop, is_some, Some, None, Option, sym, refl, ap, ◌∙◌, subst, ap₂, subst₂, ⊎_elim, mul-le-mul_left, mul-suc, arith}
 use mathlib.Core.Path.{fun_ext}
 use native.Mathlib.Nat.{zero-div}
 use Rattle.std.proofs.lemmas.List.FromFn.{fill_by_all}
 use Rattle.std.proofs.ByRecursion.{all-has, all_shuffled, has_shuffled}
-use Rattle.std.proofs.lemmas.List.{length-set, length-take-le, get_or-take, take-append-drop}
+use Rattle.std.proofs.lemmas.List.{length-take-le, get_or-take, take-append-drop}
 use Rattle.std.proofs.lemmas.Bool.{both_ways, cases_Bool, cases_lt, or_parts, and_left, cond-true, cond-false, eqb-false, lt-ltb, le-ltb}
-use Rattle.std.specs.List.{ContainsAt, AllByRecursion}
-use Rattle.costs.specs.Costs.{Costs, Laws}
+use Rattle.std.specs.List.{ContainsAt, AllByRecursion, FoldsTo}
+use Rattle.costs.specs.Costs.{Costs}
 use Rattle.entries.specs.Entry.{entry_before}
 use Rattle.entries.specs.declared.Entry.{Entry}
 use Rattle.masks.specs.Sets.{holds}
@@ -22,26 +22,32 @@ use Rattle.routes.proofs.Sizes.{size, size_most}
 use Rattle.routes.proofs.Theorems.{settling_steps_lem}
 use Rattle.waiting.specs.Waiting.{memory, queued, InOrder, Popped}
 use Rattle.waiting.specs.declared.list.Waiting.{Waiting}
-use Rattle.search.specs.Found.{NearestFirst, Searched}
-use Rattle.search.specs.Matrix.{matrix, Square}
-use Rattle.search.specs.Steps.{entry, costs_in, AboveKnown, with_offer, Short, Waits, Step, Marked}
-use Rattle.search.specs.declared.marks.Marks.{Marks}
+use Rattle.squares.specs.Found.{NearestFirst, Searched}
+use Rattle.squares.specs.Known.{costs_in, with_offer, Short}
+use Rattle.squares.specs.declared.found.Found.{Found}
+use Rattle.search.specs.Steps.{entry, AboveKnown, Waits, Step, Marked}
 use Rattle.search.proofs.Lines.{InLine, size_more, line_more}
 use Rattle.search.proofs.Shorts.{known_inside, known_short}
-use Rattle.search.proofs.Squares.{matrix_sound}
+
+-- what calls wrote is the value that each of them gave
+pub all_made : {F X : Type 0} (R : F → X → F → Type 0) (z : X) → ((f : F) (x : X) (f' : F) → R f x f' → x ≡ z) →
+    (xs : List X) (f last : F) → FoldsTo R f xs last → (k : ℕ) → get_or xs k z ≡ z
+all_made R z h [] f last ran k = refl
+all_made R z h (x ∷ xs) f last ran zero = h f x ran.0 ran.1
+all_made R z h (x ∷ xs) f last ran (suc k) = all_made R z h xs ran.0 last ran.2 k
 
 -- the entries that the routers that are not done may add yet
 abbrev pub left : ℕ → ℕ → ℕ
 left count done = count * (count - size count (holds done))
 
-pub record Running {C : Type 0} (rule : Costs C) (links : List (Option C)) (count root : ℕ) (best : List C) (known : ℕ) (marks : Marks) (w : Waiting (Entry C)) : Type 0 where
-  pub settling : Settling (matrix rule count links) root (holds marks.done) (costs_in rule best known)
-  pub waits : Waits rule (holds marks.done) (costs_in rule best known) w
-  pub room : w.len + left count marks.done ≤ count * count + 1
-  pub size : count * count ≤ length (memory w)
-  pub absent : (d : ℕ) → d < count → holds known d ≡ false → get_or best d rule.zero ≡ rule.zero
-  pub long : length marks.order ≡ 32
-  pub line : InLine (matrix rule count links) (holds marks.done) (costs_in rule best known) marks.order marks.many
+-- `marks` are the routers that are done
+pub record Running {C : Type 0} (N : Network C) (root : ℕ) (best : List C) (known : ℕ) (marks : Found) (w : Waiting (Entry C)) : Type 0 where
+  pub settling : Settling N root (holds marks.known) (costs_in N.rule best known)
+  pub waits : Waits N.rule (holds marks.known) (costs_in N.rule best known) w
+  pub room : w.len + left N.count marks.known ≤ N.count * N.count + 1
+  pub size : N.count * N.count ≤ length (memory w)
+  pub absent : (d : ℕ) → d < N.count → holds known d ≡ false → get_or best d N.rule.zero ≡ N.rule.zero
+  pub line : InLine N (holds marks.known) (costs_in N.rule best known) marks.order.items
 
 -- an element besides the first
 has_rest : {X : Type 0} (e : X) (xs : List X) (y : X) → (e ≡ y → ⊥) → ContainsAt (e ∷ xs) y → ContainsAt xs y
@@ -62,18 +68,18 @@ left_less count done done' h =
     let more = mul-le-mul_left {m = suc (count - size count (holds done'))} {n = count - size count (holds done)} count (omega arith) in
     omega (arith, more, mul-suc count (count - size count (holds done')))
 
-module _ {C : Type 0} {rule : Costs C} {links : List (Option C)} {count root : ℕ} (laws : Laws rule) (square : Square rule links count) (inside : root < count) where
-  abbrev N : Network C
-  N = matrix rule count links
+module _ {C : Type 0} {N : Network C} {root : ℕ} (sound : Sound N) (inside : root < N.count) where
+  abbrev rule : Costs C
+  rule = N.rule
 
-  sound : Sound N
-  sound = matrix_sound rule links count laws square
+  abbrev count : ℕ
+  count = N.count
 
   settles : Settles N root
   settles = settling_steps_lem C N sound root inside
 
   -- the root alone waits
-  module _ {best best' : List C} {known' : ℕ} {w w' : Waiting (Entry C)} (marks : Marks) (none : marks.done ≡ 0) (empty : marks.many ≡ 0) (whole : length marks.order ≡ 32)
+  module _ {best best' : List C} {known' : ℕ} {w w' : Waiting (Entry C)} (marks : Found) (none : marks.known ≡ 0) (empty : length marks.order.items ≡ 0)
       (zeros : (d : ℕ) → d < count → get_or best d rule.zero ≡ rule.zero)
       (clear : w.len ≡ 0) (ordered : InOrder (entry_before rule.lower) w) (long : count * count ≤ length (memory w))
       (s : Step rule (with_offer rule (costs_in rule best 0) root (Some rule.zero)) (root + 1) 1 best 0 w best' known' w') where
@@ -83,7 +89,7 @@ module _ {C : Type 0} {rule : Costs C} {links : List (Option C)} {count root : �
     first : (d : ℕ) → at_first N root d ≡ costs_in rule best' known' d
     first d = sym (s.costs d ∙ ap (λ o. cond (eqb d root) (lesser rule o (Some rule.zero)) o) (nothing d) ∙ ap (λ o. cond (eqb d root) o None) (unfold lesser in refl))
 
-    opened : Waits rule (holds marks.done) (costs_in rule best 0) w
+    opened : Waits rule (holds marks.known) (costs_in rule best 0) w
     opened =
         record {
           ordered = ordered;
@@ -91,31 +97,30 @@ module _ {C : Type 0} {rule : Costs C} {links : List (Option C)} {count root : �
           within = subst (λ k. AllByRecursion (AboveKnown rule (costs_in rule best 0)) (take k (memory w))) (sym clear) tt;
         }
 
-    pub running_first : Running rule links count root best' known' marks w'
+    pub running_first : Running N root best' known' marks w'
     running_first =
         record {
-          settling = subst₂ (Settling N root) (fun_ext (λ x. sym (holds_none marks.done x none))) (fun_ext first) settles.begins;
-          waits = s.waits (holds marks.done) opened;
-          room = omega (arith, s.len, mul-le-mul_left {m = count - size count (holds marks.done)} {n = count} count (omega arith));
+          settling = subst₂ (Settling N root) (fun_ext (λ x. sym (holds_none marks.known x none))) (fun_ext first) settles.begins;
+          waits = s.waits (holds marks.known) opened;
+          room = omega (arith, s.len, mul-le-mul_left {m = count - size count (holds marks.known)} {n = count} count (omega arith));
           size = omega (arith, s.size);
           absent = λ d l u. (s.absent d u).1 ∙ zeros d l;
-          long = whole;
           line =
               record {
                 few = omega arith;
                 marked = λ i l. absurd (omega arith);
-                placed = λ d t. absurd (both_ways (holds marks.done d) (holds_none marks.done d none) t);
+                placed = λ d t. absurd (both_ways (holds marks.known d) (holds_none marks.known d none) t);
                 once = λ i j h l. absurd (omega arith);
                 rising = λ i j h l. absurd (omega arith);
               };
         }
 
-  module _ {best : List C} {known : ℕ} {marks : Marks} {w : Waiting (Entry C)} (run : Running rule links count root best known marks w) where
+  module _ {best : List C} {known : ℕ} {marks : Found} {w : Waiting (Entry C)} (run : Running N root best known marks w) where
     abbrev f : ℕ → Option C
     f = costs_in rule best known
 
     abbrev done : ℕ → Bool
-    done = holds marks.done
+    done = holds marks.known
 
     module _ {e : Entry C} {v : Waiting (Entry C)} (out : Popped (entry_before rule.lower) e w v) where
       head : AboveKnown rule f e
@@ -133,7 +138,7 @@ module _ {C : Type 0} {rule : Costs C} {links : List (Option C)} {count root : �
       rest_within = (all_shuffled (AboveKnown rule f) (queued w) (e ∷ queued v) out.items run.waits.within).1
 
       -- its router is done already
-      pub running_skip : done e.router ≡ true → Running rule links count root best known marks v
+      pub running_skip : done e.router ≡ true → Running N root best known marks v
       running_skip old =
           record {
             settling = run.settling;
@@ -146,7 +151,6 @@ module _ {C : Type 0} {rule : Costs C} {links : List (Option C)} {count root : �
             room = omega (arith, run.room, out.len);
             size = omega (arith, run.size, out.size);
             absent = run.absent;
-            long = run.long;
             line = run.line;
           }
 
@@ -159,24 +163,24 @@ module _ {C : Type 0} {rule : Costs C} {links : List (Option C)} {count root : �
         near =
             record {
               waits = new;
-              costs = head.1 ∙ ap Some (sym (laws.total e.cost head.0 head.2 (not_lower e.router head.0 new head.1)));
+              costs = head.1 ∙ ap Some (sym (sound.lawful.total e.cost head.0 head.2 (not_lower e.router head.0 new head.1)));
               least = not_lower;
             }
 
         pub next_short : Short rule e.cost
         next_short = known_short N sound root inside done f run.settling e.router e.cost near.costs
 
-        pub few_marked : marks.many < 32
-        few_marked = omega (arith, run.line.few, size_more count done (also done e.router) e.router (λ x. refl) router_inside new, size_most count (also done e.router), square.few)
+        pub few_marked : length marks.order.items < 32
+        few_marked = omega (arith, run.line.few, size_more count done (also done e.router) e.router (λ x. refl) router_inside new, size_most count (also done e.router), sound.few)
 
-        module _ {marks' : Marks} (m : Marked e.router marks marks') where
-          fewer : left count marks'.done + count ≤ left count marks.done
-          fewer = left_less count marks.done marks'.done (size_more count done (holds marks'.done) e.router m.done router_inside new)
+        module _ {marks' : Found} (m : Marked e.router marks marks') where
+          fewer : left count marks'.known + count ≤ left count marks.known
+          fewer = left_less count marks.known marks'.known (size_more count done (holds marks'.known) e.router m.done router_inside new)
 
           pub next_room : v.len + count ≤ length (memory v)
           next_room = omega (arith, fewer, run.room, run.size, out.len, out.size)
 
-          next_waits : Waits rule (holds marks'.done) f v
+          next_waits : Waits rule (holds marks'.known) f v
           next_waits =
               record {
                 ordered = out.ordered run.waits.ordered;
@@ -187,20 +191,19 @@ module _ {C : Type 0} {rule : Costs C} {links : List (Option C)} {count root : �
           module _ {best' : List C} {known' : ℕ} {w' : Waiting (Entry C)}
               (s : Step rule (relaxed_by N f e.router e.cost) count count best known v best' known' w') where
             -- it is done now
-            pub running_turn : Running rule links count root best' known' marks' w'
+            pub running_turn : Running N root best' known' marks' w'
             running_turn =
                 record {
                   settling = subst₂ (Settling N root) (fun_ext (λ x. sym (m.done x))) (fun_ext (λ x. sym (s.costs x))) (settles.goes_on done f e.router e.cost run.settling near);
-                  waits = s.waits (holds marks'.done) next_waits;
+                  waits = s.waits (holds marks'.known) next_waits;
                   room = omega (arith, s.len, fewer, run.room, out.len);
                   size = omega (arith, s.size, run.size, out.size);
                   absent = λ d l u. let q = s.absent d u in q.1 ∙ run.absent d l q.0;
-                  long = ap length m.order ∙ length-set marks.order marks.many e.router ∙ run.long;
-                  line = subst₂ (InLine N (holds marks'.done) (costs_in rule best' known')) (sym m.order) (sym m.many)
-                      (line_more N sound root done f e.router e.cost run.settling near router_inside (holds marks'.done) (costs_in rule best' known') m.done s.costs marks.order marks.many run.line (omega (arith, few_marked, run.long)));
+                  line = subst (InLine N (holds marks'.known) (costs_in rule best' known')) (sym m.order)
+                      (line_more N sound root done f e.router e.cost run.settling near router_inside (holds marks'.known) (costs_in rule best' known') m.done s.costs marks.order.items run.line);
                 }
 
-            pub turn_less : w'.len + left count marks'.done < w.len + left count marks.done
+            pub turn_less : w'.len + left count marks'.known < w.len + left count marks.known
             turn_less = omega (arith, s.len, fewer, out.len)
 
     -- none waits
@@ -214,19 +217,19 @@ module _ {C : Type 0} {rule : Costs C} {links : List (Option C)} {count root : �
       found : (d : ℕ) → d < count → f d ≡ best_cost N root d
       found = settles.ends done f run.settling all_done
 
-      -- a router of the network is in the mask where it has a best cost
-      known_where : (d : ℕ) → d < count → is_some (best_cost N root d) ≡ holds known d
-      known_where d l = ap is_some (sym (found d l)) ∙ there (holds known d) (get_or best d rule.zero)
-        where
-          there : (t : Bool) (x : C) → is_some (cond t (Some x) None) ≡ t
-          there true x = refl
-          there false x = refl
-
-      known_only : (d : ℕ) → count ≤ d → holds known d ≡ false
-      known_only d l =
+      -- a router of the network is done where it has a best cost
+      done_where : (d : ℕ) → d < count → done d ≡ is_some (best_cost N root d)
+      done_where d l =
           ⊎_elim
-          (λ t. absurd (omega (arith, known_inside N sound root inside done f run.settling d (get_or best d rule.zero) (cond-true (holds known d) (Some (get_or best d rule.zero)) None t))))
-          (λ n. n) (cases_Bool (holds known d))
+          (λ t. let q = run.settling.known d t in t ∙ sym (ap is_some (sym (found d l) ∙ q.1)))
+          (λ n. n ∙ sym (⊎_elim (λ h. let q = present_some (best_cost N root d) h in absurd (both_ways (done d) n (all_done d q.0 (found d l ∙ q.1)))) (λ h. h) (cases_Bool (is_some (best_cost N root d)))))
+          (cases_Bool (done d))
+
+      done_only : (d : ℕ) → count ≤ d → done d ≡ false
+      done_only d l =
+          ⊎_elim
+          (λ t. let q = run.settling.known d t in absurd (omega (arith, known_inside N sound root inside done f run.settling d q.0 q.1)))
+          (λ n. n) (cases_Bool (done d))
 
       -- what the memory holds for a router of the network
       written : (d : ℕ) → d < count → get_or best d rule.zero ≡ when_some (best_cost N root d) rule.zero (λ c. c)
@@ -237,36 +240,36 @@ module _ {C : Type 0} {rule : Costs C} {links : List (Option C)} {count root : �
           (cases_Bool (holds known d))
 
       -- a router of the sequence has a best cost
-      costs_of : (i : ℕ) → i < marks.many → (a : C) × (f (get_or marks.order i 0) ≡ Some a) × (get_or marks.order i 0 < count)
+      costs_of : (i : ℕ) → i < length marks.order.items → (a : C) × (f (get_or marks.order.items i 0) ≡ Some a) × (get_or marks.order.items i 0 < count)
       costs_of i h =
-          let x = get_or marks.order i 0 in
+          let x = get_or marks.order.items i 0 in
           let q = run.settling.known x (run.line.marked i h) in
           (q.0, q.1, known_inside N sound root inside done f run.settling x q.0 q.1)
 
-      ordered : NearestFirst N root marks.order marks.many
+      ordered : NearestFirst N root marks.order.items
       unfolding below
       ordered =
           record {
-            fits = omega (arith, run.line.few, size_most count done, square.few);
-            reached = λ i h. let q = costs_of i h in (q.2, ap is_some (sym (found (get_or marks.order i 0) q.2) ∙ q.1));
+            fits = omega (arith, run.line.few, size_most count done, sound.few);
+            reached = λ i h. let q = costs_of i h in (q.2, ap is_some (sym (found (get_or marks.order.items i 0) q.2) ∙ q.1));
             each = λ d l t. let q = present_some (best_cost N root d) t in run.line.placed d (all_done d q.0 (found d l ∙ q.1));
             once = run.line.once;
             rising = λ i j h l.
                 let p = costs_of i (omega arith) in
                 let q = costs_of j l in
-                subst₂ (λ x y. below rule x y ≡ false) (sym q.1 ∙ found (get_or marks.order j 0) q.2) (sym p.1 ∙ found (get_or marks.order i 0) p.2)
+                subst₂ (λ x y. below rule x y ≡ false) (sym q.1 ∙ found (get_or marks.order.items j 0) q.2) (sym p.1 ∙ found (get_or marks.order.items i 0) p.2)
                 (run.line.rising i j h l p.0 q.0 p.1 q.1);
           }
 
       pub running_end : (old : List C) → count ≤ length best → drop count best ≡ drop count old →
-          Searched N root old best (record { known = known; order = marks.order; many = marks.many })
+          Searched N root old best marks
       running_end old long past =
           record {
             memory = sym (take-append-drop count best) ∙ ap₂ ◌++◌
                 (fill_by_all (λ d. when_some (best_cost N root d) rule.zero (λ c. c)) (take count best) count rule.zero (length-take-le count best long) (λ k h. get_or-take count best k rule.zero h ∙ written k h)) past;
             known = λ d. ⊎_elim
-                (λ (l : d < count). sym (ap₂ ◌&&◌ (lt-ltb d count l) (known_where d l)))
-                (λ (l : count ≤ d). known_only d l ∙ sym (and_left (ltb d count) (is_some (best_cost N root d)) (le-ltb d count l)))
+                (λ (l : d < count). sym (ap₂ ◌&&◌ (lt-ltb d count l) (sym (done_where d l))))
+                (λ (l : count ≤ d). done_only d l ∙ sym (and_left (ltb d count) (is_some (best_cost N root d)) (le-ltb d count l)))
                 (cases_lt d count);
             order = ordered;
           }

@@ -14,35 +14,16 @@ use Rattle.routes.proofs.Members.{some_inj, none_some}
 use Rattle.routes.proofs.Order.{le_trans, not_above}
 use Rattle.waiting.specs.Waiting.{memory, queued, Pushed, PushAnswer}
 use Rattle.waiting.specs.declared.list.Waiting.{Waiting}
-use Rattle.search.specs.Steps.{entry, costs_in, AboveKnown, with_offer, Step}
+use Rattle.squares.specs.Known.{costs_in, with_offer}
+use Rattle.squares.proofs.Offers.{same_either, lesser_none, lesser_old, lesser_new}
+use Rattle.search.specs.Steps.{entry, AboveKnown, Step}
 
 -- a push with room is not refused
 pub with_room : {E : Type 0} (before : E → E → Bool) (e : E) (w w' : Waiting E) (r : Result (Unit {0}) Refusal) → PushAnswer before e w w' r → w.len < length (memory w) → Pushed before e w w'
 with_room before e w w' (Ok _) p room = p
 with_room before e w w' (Err _) p room = absurd (omega (arith, p.full))
 
-same_either : {A : Type 0} (b : Bool) (x y : A) → x ≡ y → y ≡ cond b x y
-same_either true x y e = sym e
-same_either false x y e = refl
-
 module _ {C : Type 0} (rule : Costs C) where
-  pub lesser_none : (o : Option C) → lesser rule o None ≡ o
-  unfolding lesser
-  lesser_none None = refl
-  lesser_none (Some a) = refl
-
-  -- a cost that is not lower changes nothing
-  lesser_old : (o : Option C) (a c : C) → o ≡ Some a → rule.lower c a ≡ false → lesser rule o (Some c) ≡ o
-  unfolding lesser
-  lesser_old None a c e h = absurd (none_some a e)
-  lesser_old (Some b) a c e h = cond-false (rule.lower c b) (Some c) (Some b) (ap (rule.lower c) (some_inj b a e) ∙ h)
-
-  -- a cost that is lower, or the first, is taken
-  lesser_new : (o : Option C) (c : C) → ((a : C) → o ≡ Some a → rule.lower c a ≡ true) → lesser rule o (Some c) ≡ Some c
-  unfolding lesser
-  lesser_new None c h = refl
-  lesser_new (Some b) c h = cond-true (rule.lower c b) (Some c) (Some b) (h b refl)
-
   module _ (best : List C) (known : ℕ) (w : Waiting (Entry C)) (to : ℕ) where
     abbrev f : ℕ → Option C
     f = costs_in rule best known
@@ -67,7 +48,7 @@ module _ {C : Type 0} (rule : Costs C) where
         }
 
     pub not_offered : Step rule (with_offer rule f to None) (to + 1) 1 best known w best known w
-    not_offered = still (with_offer rule f to None) (to + 1) 1 (λ d. same_either (eqb d to) (lesser rule (f d) None) (f d) (lesser_none (f d)))
+    not_offered = still (with_offer rule f to None) (to + 1) 1 (λ d. same_either (eqb d to) (lesser rule (f d) None) (f d) (lesser_none rule (f d)))
 
     pub not_taken : (c : C) → holds known to ≡ true → rule.lower c (get_or best to rule.zero) ≡ false →
         Step rule (with_offer rule f to (Some c)) (to + 1) 1 best known w best known w
@@ -77,7 +58,7 @@ module _ {C : Type 0} (rule : Costs C) where
         at_to = cond-true (holds known to) (Some (get_or best to rule.zero)) None there
 
         here : (d : ℕ) → d ≡ to → f d ≡ with_offer rule f to (Some c) d
-        here d e = same_either (eqb d to) (lesser rule (f d) (Some c)) (f d) (lesser_old (f d) (get_or best to rule.zero) c (ap f e ∙ at_to) h)
+        here d e = same_either (eqb d to) (lesser rule (f d) (Some c)) (f d) (lesser_old rule (f d) (get_or best to rule.zero) c (ap f e ∙ at_to) h)
 
         other : (d : ℕ) → (d ≡ to → ⊥) → f d ≡ with_offer rule f to (Some c) d
         other d ne = sym (cond-false (eqb d to) (lesser rule (f d) (Some c)) (f d) (ne_eqb d to ne))
@@ -102,7 +83,7 @@ module _ {C : Type 0} (rule : Costs C) where
       taken =
           record {
             costs = λ d. ⊎_elim
-                (λ (e : d ≡ to). here d e ∙ sym (cond-true (eqb d to) (lesser rule (f d) (Some c)) (f d) (eq-eqb d to e) ∙ lesser_new (f d) c (λ a ea. news a (ap f (sym e) ∙ ea))))
+                (λ (e : d ≡ to). here d e ∙ sym (cond-true (eqb d to) (lesser rule (f d) (Some c)) (f d) (eq-eqb d to e) ∙ lesser_new rule (f d) c (λ a ea. news a (ap f (sym e) ∙ ea))))
                 (λ ne. there d ne ∙ sym (cond-false (eqb d to) (lesser rule (f d) (Some c)) (f d) (ne_eqb d to ne)))
                 (cases_eq d to);
             absent = λ d e. let q = or_parts (eqb d to) (holds known d) (sym (more d) ∙ e) in (q.1, get_or-set_other best to d c rule.zero (eqb-false d to q.0));

@@ -4,12 +4,13 @@ use Rattle.std.proofs.lemmas.Bool.{cases_eq, cases_lt, cond-true, cond-false, eq
 use Rattle.costs.specs.Costs.{Costs}
 use Rattle.entries.specs.declared.Entry.{Entry}
 use Rattle.routes.specs.Leasts.{lesser, joined}
+use Rattle.routes.specs.Network.{Network, Sound}
 use Rattle.routes.specs.Settling.{relaxed_by}
 use Rattle.waiting.specs.declared.list.Waiting.{Waiting}
-use Rattle.search.specs.Matrix.{matrix}
-use Rattle.search.specs.Steps.{costs_in, with_offer, Step}
-use Rattle.search.proofs.Offers.{still, lesser_none}
-use Rattle.search.proofs.Squares.{unlinked}
+use Rattle.squares.specs.Known.{costs_in, with_offer}
+use Rattle.squares.proofs.Offers.{lesser_none}
+use Rattle.search.specs.Steps.{Step}
+use Rattle.search.proofs.Offers.{still}
 
 -- one step after another
 then : {C : Type 0} (rule : Costs C) (f g h : ℕ → Option C) (n n₁ n₂ m m₁ m₂ : ℕ)
@@ -26,12 +27,23 @@ then rule f g h n n₁ n₂ m m₁ m₂ best best₁ best₂ known known₁ know
       size = t.size ∙ s.size;
     }
 
-module _ {C : Type 0} (rule : Costs C) (links : List (Option C)) (count from : ℕ) (cost : C) (best : List C) (known : ℕ) (w : Waiting (Entry C)) where
+-- no link leads past the routers
+unlinked : {C : Type 0} (N : Network C) → Sound N → (a b : ℕ) → N.count ≤ b → N.link a b ≡ None
+unlinked {C} N sound a b h = by (N.link a b) refl
+  where
+    by : (o : Option C) → N.link a b ≡ o → o ≡ None
+    by None e = refl
+    by (Some c) e = absurd (omega (arith, h, sound.to a b c e))
+
+module _ {C : Type 0} (N : Network C) (sound : Sound N) (from : ℕ) (cost : C) (best : List C) (known : ℕ) (w : Waiting (Entry C)) where
+  abbrev rule : Costs C
+  rule = N.rule
+
   abbrev f : ℕ → Option C
   f = costs_in rule best known
 
   abbrev relaxed : ℕ → Option C
-  relaxed = relaxed_by (matrix rule count links) f from cost
+  relaxed = relaxed_by N f from cost
 
   -- the routers below `to` are relaxed
   abbrev pub up_to : ℕ → ℕ → Option C
@@ -42,7 +54,7 @@ module _ {C : Type 0} (rule : Costs C) (links : List (Option C)) (count from : �
 
   module _ (best₁ : List C) (known₁ : ℕ) (w₁ : Waiting (Entry C)) where
     pub round_more : (to : ℕ) (o : Option C) (best₂ : List C) (known₂ : ℕ) (w₂ : Waiting (Entry C)) → Step rule (up_to to) to to best known w best₁ known₁ w₁ →
-        o ≡ joined rule (Some cost) ((matrix rule count links).link from to) →
+        o ≡ joined rule (Some cost) (N.link from to) →
         Step rule (with_offer rule (costs_in rule best₁ known₁) to o) (to + 1) 1 best₁ known₁ w₁ best₂ known₂ w₂ →
         Step rule (up_to (to + 1)) (to + 1) (to + 1) best known w best₂ known₂ w₂
     round_more to o best₂ known₂ w₂ s is t =
@@ -55,7 +67,7 @@ module _ {C : Type 0} (rule : Costs C) (links : List (Option C)) (count from : �
         here : (d : ℕ) → d ≡ to → with_offer rule (costs_in rule best₁ known₁) to o d ≡ up_to (to + 1) d
         here d e =
             cond-true (eqb d to) _ _ (eq-eqb d to e)
-            ∙ ap₂ (lesser rule) (s.costs d ∙ cond-false (ltb d to) (relaxed d) (f d) (le-ltb d to (omega arith))) (is ∙ ap (λ k. joined rule (Some cost) ((matrix rule count links).link from k)) (sym e))
+            ∙ ap₂ (lesser rule) (s.costs d ∙ cond-false (ltb d to) (relaxed d) (f d) (le-ltb d to (omega arith))) (is ∙ ap (λ k. joined rule (Some cost) (N.link from k)) (sym e))
             ∙ sym (cond-true (ltb d (to + 1)) (relaxed d) (f d) (lt-ltb d (to + 1) (omega arith)))
 
         other : (d : ℕ) → (d ≡ to → ⊥) → with_offer rule (costs_in rule best₁ known₁) to o d ≡ up_to (to + 1) d
@@ -66,7 +78,7 @@ module _ {C : Type 0} (rule : Costs C) (links : List (Option C)) (count from : �
             (λ (l : to ≤ d). ap (λ t. cond t (relaxed d) (f d)) (le-ltb d to l ∙ sym (le-ltb d (to + 1) (omega arith))))
             (cases_lt d to)
 
-    pub round_last : (to : ℕ) → to ≡ count → Step rule (up_to to) to to best known w best₁ known₁ w₁ → Step rule relaxed count count best known w best₁ known₁ w₁
+    pub round_last : (to : ℕ) → to ≡ N.count → Step rule (up_to to) to to best known w best₁ known₁ w₁ → Step rule relaxed N.count N.count best known w best₁ known₁ w₁
     round_last to e s =
         record {
           costs = λ d. s.costs d ∙ ⊎_elim
@@ -83,5 +95,5 @@ module _ {C : Type 0} (rule : Costs C) (links : List (Option C)) (count from : �
         no_way : (l : Option C) → l ≡ None → joined rule (Some cost) l ≡ None
         no_way l e = ap (joined rule (Some cost)) e ∙ (unfold joined in refl)
 
-        past_all : (d : ℕ) → count ≤ d → relaxed d ≡ f d
-        past_all d l = ap (lesser rule (f d)) (no_way ((matrix rule count links).link from d) (unlinked rule links count from d l)) ∙ lesser_none rule (f d)
+        past_all : (d : ℕ) → N.count ≤ d → relaxed d ≡ f d
+        past_all d l = ap (lesser rule (f d)) (no_way (N.link from d) (unlinked N sound from d l)) ∙ lesser_none rule (f d)

@@ -7,7 +7,7 @@ use Rattle.routes.specs.Settling.{Settling}
 use Rattle.routes.proofs.Members.{some_inj}
 use Rattle.routes.proofs.Order.{higher}
 use Rattle.routes.proofs.Ranks.{rank, rank_below, rank_less}
-use Rattle.search.specs.Steps.{Short}
+use Rattle.squares.specs.Known.{Short}
 
 module _ {C : Type 0} (N : Network C) (sound : Sound N) (root : ℕ) (inside : root < N.count) (done : ℕ → Bool) (f : ℕ → Option C) (s : Settling N root done f) where
   pub known_inside : (d : ℕ) (b : C) → f d ≡ Some b → d < N.count

@@ -1,15 +1,22 @@
--- The steps of a search: a cost offered to a router, the links of a router relaxed, a router marked as done.
-use Rattle.std.specs.Prelude.{◌≡◌, ℕ, ◌+◌, ◌≤◌, Bool, false, cond, List, length, drop, Some, None, Option, ◌==◌, slice_index_or, slice_set}
+-- What a search leans on, and its steps: a cost offered to a router, the links of a router relaxed, a router marked as done.
+use Rattle.std.specs.Prelude.{◌≡◌, ℕ, ◌+◌, ◌*◌, ◌<◌, ◌≤◌, Bool, false, List, [], ◌∷◌, ◌++◌, length, drop, Some, Option, slice_index_or}
 use Rattle.std.specs.List.{ContainsAt, AllByRecursion}
-use Rattle.costs.specs.Costs.{Costs, Joinable, Joins}
+use Rattle.costs.specs.Costs.{Costs, Joinable}
 use Rattle.entries.specs.Entry.{entry_before}
 use Rattle.entries.specs.declared.Entry.{Entry}
 use Rattle.masks.specs.Sets.{holds}
-use Rattle.routes.specs.Leasts.{lesser}
+use Rattle.routes.specs.Network.{Network}
 use Rattle.routes.specs.Settling.{also}
+use Rattle.squares.specs.Known.{costs_in}
+use Rattle.squares.specs.declared.found.Found.{Found}
 use Rattle.waiting.specs.Waiting.{memory, queued, InOrder}
 use Rattle.waiting.specs.declared.list.Waiting.{Waiting}
-use Rattle.search.specs.declared.marks.Marks.{Marks}
+
+-- a search from a router of the network, with a place for the cost of each router and one to wait for each pair
+pub record Ready {C : Type 0} (N : Network C) (root : ℕ) (best : List C) (waiting : List (Entry C)) : Type 0 where
+  pub inside : root < N.count
+  pub places : N.count ≤ length best
+  pub room : N.count * N.count ≤ length waiting
 
 -- a router that waits at a cost
 abbrev pub entry : {C : Type 0} → C → ℕ → Entry C
@@ -18,18 +25,6 @@ entry c d = record { cost = c; router = d }
 -- a cost that can be joined with the cost of a link, where there is one
 abbrev pub CanGoOn : {C : Type 0} → Costs C → C → Option C → Type 0
 CanGoOn {C} rule cost link = (l : C) → link ≡ Some l → Joinable rule cost l
-
--- a cost that joins few enough links to be joined with one more
-abbrev pub Short : {C : Type 0} → Costs C → C → Type 0
-Short rule cost = (m : ℕ) × (m ≤ 126) × Joins rule m cost
-
--- the costs known so far: what the memory holds for the routers of the mask
-abbrev pub costs_in : {C : Type 0} → Costs C → List C → ℕ → ℕ → Option C
-costs_in rule best known d = cond (holds known d) (Some (slice_index_or best d rule.zero)) None
-
--- the costs after one was offered to a router, which takes it where it is lower
-abbrev pub with_offer : {C : Type 0} → Costs C → (ℕ → Option C) → ℕ → Option C → ℕ → Option C
-with_offer rule f to offer d = cond (d == to) (lesser rule (f d) offer) (f d)
 
 -- an entry that is not below the known cost of its router
 abbrev pub AboveKnown : {C : Type 0} → Costs C → (ℕ → Option C) → Entry C → Type 0
@@ -54,7 +49,6 @@ pub record Step {C : Type 0} (rule : Costs C) (f' : ℕ → Option C) (n m : ℕ
   pub size : length (memory w') ≡ length (memory w)
 
 -- one router more is done, and comes next in the sequence
-pub record Marked (router : ℕ) (old new : Marks) : Type 0 where
-  pub done : (k : ℕ) → holds new.done k ≡ also (holds old.done) router k
-  pub order : new.order ≡ slice_set old.order old.many router
-  pub many : new.many ≡ old.many + 1
+pub record Marked (router : ℕ) (old new : Found) : Type 0 where
+  pub done : (k : ℕ) → holds new.known k ≡ also (holds old.known) router k
+  pub order : new.order.items ≡ old.order.items ++ router ∷ []

@@ -1,6 +1,8 @@
 -- The climbing pass of the rest costs of one neighbour.
-use Rattle.std.proofs.Common.{◌≡◌, ℕ, ◌+◌, ◌-◌, ◌<◌, ◌≤◌, Bool, true, false, not, ◌&&◌, eqb, ◌⊎◌, List, get_or, Some, None, Option, sym, refl, ap, ◌∙◌, subst, inl, inr, ⊎_elim, arith}
+use Rattle.std.proofs.Common.{◌≡◌, ℕ, ◌+◌, ◌<◌, ◌≤◌, Bool, true, false, not, ◌&&◌, eqb, ◌⊎◌, List, [], ◌∷◌, ◌++◌, length, get_or, Some, None, Option, sym, refl, ap, ◌∙◌, subst, inl, inr, ⊎_elim, arith}
 use mathlib.Core.Path.{fun_ext}
+use Rattle.std.proofs.Math.Seq.{get_or-append_seam}
+use Rattle.std.proofs.lemmas.List.{get_or_append_left, length-append}
 use Rattle.std.proofs.lemmas.Bool.{cases_eq, cond-true, cond-false, eq-eqb, ne_eqb, and_left, and_right, and_from, not_from_true, not_from_false, or_left, or_right}
 use Rattle.routes.specs.Leasts.{lesser, joined}
 use Rattle.routes.specs.Network.{Network, Sound}
@@ -11,8 +13,8 @@ use Rattle.routes.specs.Tree.{Fathers, lowest_father}
 use Rattle.routes.proofs.Fathers.{lowest_chooses}
 use Rattle.routes.proofs.Order.{least_some, same_least}
 use Rattle.routes.proofs.Theorems.{climbing_steps_lem}
-use Rattle.search.specs.Found.{NearestFirst}
-use Rattle.search.specs.Steps.{costs_in, with_offer, Short}
+use Rattle.squares.specs.Found.{NearestFirst}
+use Rattle.squares.specs.Known.{costs_in, with_offer, Short}
 use Rattle.settling.specs.Rows.{to_father}
 use Rattle.settling.proofs.Offers.{closed}
 use Rattle.settling.proofs.Orders.{after_father, same_place}
@@ -45,11 +47,13 @@ up_to_father {C} N root row reached x p d nr =
     f : ℕ → Option C
     f = costs_in N.rule row reached
 
--- The last i routers of the sequence are done.
-pub record ClimbingOn {C : Type 0} (N : Network C) (root v : ℕ) (order : List ℕ) (many : ℕ) (f : ℕ → Option C) (i : ℕ) : Type 0 where
+-- The routers that are left are the front of the sequence, and those behind them are done.
+pub record ClimbingOn {C : Type 0} (N : Network C) (root v : ℕ) (order : List ℕ) (f : ℕ → Option C) (left : List ℕ) : Type 0 where
+  pub few : length left ≤ length order
+  pub front : (j : ℕ) → j < length left → get_or left j 0 ≡ get_or order j 0
   pub done : ℕ → Bool
   pub climbing : Climbing N (lowest_father N) root v done f
-  pub marked : (j : ℕ) → many ≤ j + i → j < many → done (get_or order j 0) ≡ true
+  pub marked : (j : ℕ) → length left ≤ j → j < length order → done (get_or order j 0) ≡ true
 
 module _ {C : Type 0} (N : Network C) (sound : Sound N) (root v : ℕ) where
   abbrev F : Fathers
@@ -58,15 +62,17 @@ module _ {C : Type 0} (N : Network C) (sound : Sound N) (root v : ℕ) where
   climbs : Climbs N F root v
   climbs = climbing_steps_lem C N sound F (lowest_chooses N sound) root v
 
-  pub climbing_first : (order : List ℕ) (many : ℕ) (f : ℕ → Option C) → ((d : ℕ) → f d ≡ started N F root v d) → ClimbingOn N root v order many f 0
-  climbing_first order many f h =
+  pub climbing_first : (order : List ℕ) (f : ℕ → Option C) → ((d : ℕ) → f d ≡ started N F root v d) → ClimbingOn N root v order f order
+  climbing_first order f h =
       record {
+        few = omega arith;
+        front = λ j l. refl;
         done = λ x. false;
         climbing = subst (Climbing N F root v (λ x. false)) (fun_ext (λ d. sym (h d))) climbs.begins;
         marked = λ j l k. absurd (omega arith);
       }
 
-  module _ {order : List ℕ} {many : ℕ} (line : NearestFirst N root order many) {f : ℕ → Option C} {i : ℕ} (on : ClimbingOn N root v order many f i) where
+  module _ {order : List ℕ} (line : NearestFirst N root order) {f : ℕ → Option C} {left : List ℕ} (on : ClimbingOn N root v order f left) where
     abbrev From : ℕ → C → Type 0
     From y c = Start N F root v y c ⊎ ((x : ℕ) × (on.done x ≡ true) × FromChild N F root v x y c)
 
@@ -80,28 +86,41 @@ module _ {C : Type 0} (N : Network C) (sound : Sound N) (root v : ℕ) where
     climbing_short y c e =
         transverse_short N sound root v y c (top (climb_of y c (least_some N.rule sound.lawful (From y) (f y) c (on.climbing.each y) e).holds))
 
-    module _ {f' : ℕ → Option C} (l : i < many) (s : (y : ℕ) → f' y ≡ to_father N root (F root (get_or order (many - 1 - i) 0)) f (get_or order (many - 1 - i) 0) y) where
-      abbrev x : ℕ
-      x = get_or order (many - 1 - i) 0
+    -- x is the last of those that are left
+    module _ (left' : List ℕ) (x : ℕ) (e : left ≡ left' ++ x ∷ []) where
+      longer : length left ≡ length left' + 1
+      longer = ap length e ∙ length-append left' (x ∷ [])
 
-      children : (z : ℕ) → F root z ≡ Some x → on.done z ≡ true
-      children z e =
-          let b = after_father N sound root order many line z x e in
-          let q = same_place N sound root order many line b.0 (many - 1 - i) (omega (arith, b.2, b.3)) (omega arith) b.4 in
-          ap on.done (sym b.5) ∙ on.marked b.1 (omega (arith, b.2, q)) b.3
+      at_last : x ≡ get_or order (length left') 0
+      at_last = sym (ap (λ z. get_or z (length left') 0) e ∙ get_or-append_seam left' x [] 0) ∙ on.front (length left') (omega (arith, longer))
 
-      pub climbing_more : ClimbingOn N root v order many f' (i + 1)
-      climbing_more =
-          record {
-            done = also on.done x;
-            climbing = subst (Climbing N F root v (also on.done x)) (fun_ext (λ y. sym (s y))) (climbs.goes_on on.done f x on.climbing children);
-            marked = λ j h k. ⊎_elim
-                (λ (e : j ≡ many - 1 - i). or_right (on.done (get_or order j 0)) (eqb (get_or order j 0) x) (eq-eqb (get_or order j 0) x (ap (λ z. get_or order z 0) e)))
-                (λ ne. or_left (on.done (get_or order j 0)) (eqb (get_or order j 0) x) (on.marked j (omega arith) k))
-                (cases_eq j (many - 1 - i));
-          }
+      is_there : length left' < length order
+      is_there = omega (arith, longer, on.few)
 
-    pub climbing_all : many ≤ i → (d : ℕ) → f d ≡ climbed N F root v d
+      pub last_inside : x < N.count
+      last_inside = subst (λ z. z < N.count) (sym at_last) (line.reached (length left') is_there).0
+
+      module _ {f' : ℕ → Option C} (s : (y : ℕ) → f' y ≡ to_father N root (F root x) f x y) where
+        children : (z : ℕ) → F root z ≡ Some x → on.done z ≡ true
+        children z is =
+            let b = after_father N sound root order line z x is in
+            let q = same_place N sound root order line b.0 (length left') (omega (arith, b.2, b.3)) is_there (b.4 ∙ at_last) in
+            ap on.done (sym b.5) ∙ on.marked b.1 (omega (arith, longer, b.2, q)) b.3
+
+        pub climbing_more : ClimbingOn N root v order f' left'
+        climbing_more =
+            record {
+              few = omega (arith, is_there);
+              front = λ j h. sym (ap (λ z. get_or z j 0) e ∙ get_or_append_left left' (x ∷ []) 0 j h) ∙ on.front j (omega (arith, longer));
+              done = also on.done x;
+              climbing = subst (Climbing N F root v (also on.done x)) (fun_ext (λ y. sym (s y))) (climbs.goes_on on.done f x on.climbing children);
+              marked = λ j h k. ⊎_elim
+                  (λ (q : j ≡ length left'). or_right (on.done (get_or order j 0)) (eqb (get_or order j 0) x) (eq-eqb (get_or order j 0) x (ap (λ z. get_or order z 0) q ∙ sym at_last)))
+                  (λ ne. or_left (on.done (get_or order j 0)) (eqb (get_or order j 0) x) (on.marked j (omega (arith, longer)) k))
+                  (cases_eq j (length left'));
+            }
+
+    pub climbing_all : length left ≡ 0 → (d : ℕ) → f d ≡ climbed N F root v d
     climbing_all h = climbs.ends (λ x. true) f (record { each = λ y. same_least N.rule sound.lawful (From y) (AllFrom y) (f y) (λ c. wider y c) (λ c. narrower y c) (on.climbing.each y) }) (λ x _. refl)
       where
         AllFrom : ℕ → C → Type 0
@@ -114,5 +133,5 @@ module _ {C : Type 0} (N : Network C) (sound : Sound N) (root v : ℕ) where
         narrower : (y : ℕ) (c : C) → AllFrom y c → From y c
         narrower y c (inl s) = inl s
         narrower y c (inr q) =
-            let b = after_father N sound root order many line q.0 y q.2.0 in
-            inr (q.0, ap on.done (sym b.5) ∙ on.marked b.1 (omega arith) b.3, q.2)
+            let b = after_father N sound root order line q.0 y q.2.0 in
+            inr (q.0, ap on.done (sym b.5) ∙ on.marked b.1 (omega (arith, h)) b.3, q.2)

@@ -1,8 +1,9 @@
 -- The costs of the tree paths from one neighbour down to each router.
-use Rattle.std.proofs.Common.{◌≡◌, ℕ, ◌+◌, ◌%◌, ◌^◌, ◌<◌, ◌≤◌, true, cond, eqb, ◌≢◌, ◌⊎◌, List, get_or, is_some, Some, None, Option, sym, refl, ap, ◌∙◌, subst, inl, inr, ⊎_elim, arith}
+use Rattle.std.proofs.Common.{◌≡◌, ℕ, ◌+◌, ◌%◌, ◌^◌, ◌<◌, ◌≤◌, true, false, cond, eqb, ◌≢◌, ◌⊎◌, List, length, get_or, is_some, Some, None, Option, sym, refl, ap, ◌∙◌, subst, inl, inr, ⊎_elim, arith}
 use native.Mathlib.Nat.{zero-div}
 use Rattle.std.proofs.lemmas.Bool.{cases_eq, cases_lt, cond-true, cond-false, eq-eqb, ne_eqb}
 use Rattle.costs.specs.Costs.{Costs}
+use Rattle.masks.specs.Sets.{holds}
 use Rattle.routes.specs.Leasts.{lesser, joined}
 use Rattle.routes.specs.Network.{Network, Sound}
 use Rattle.routes.specs.Routes.{best}
@@ -11,15 +12,19 @@ use Rattle.routes.specs.Tree.{Fathers, lowest_father, fall, Falls, at, on}
 use Rattle.routes.proofs.Branches.{fall_falls, falls_fall}
 use Rattle.routes.proofs.Fathers.{lowest_chooses, neighbour, joined_some}
 use Rattle.routes.proofs.Members.{none_some, some_inj, cases_option, present_some}
-use Rattle.search.specs.Found.{NearestFirst}
-use Rattle.search.specs.Steps.{costs_in, with_offer, Short}
+use Rattle.squares.specs.Found.{NearestFirst}
+use Rattle.squares.specs.Known.{costs_in, with_offer, Short}
 use Rattle.settling.specs.Rows.{by_father, own_cost}
 use Rattle.settling.proofs.Orders.{after_father, same_place}
 use Rattle.settling.proofs.Rows.{transverse_short}
 
+-- the empty mask has no router
+pub holds_none : (d : ℕ) → holds 0 d ≡ false
+holds_none d = ap (λ m. eqb (m % 2) 1) (zero-div (2 ^ d))
+
 -- the empty mask has no costs
 pub nothing_in : {C : Type 0} (rule : Costs C) (row : List C) (d : ℕ) → costs_in rule row 0 d ≡ None
-nothing_in rule row d = ap (λ m. cond (eqb (m % 2) 1) (Some (get_or row d rule.zero)) None) (zero-div (2 ^ d))
+nothing_in rule row d = ap (λ t. cond t (Some (get_or row d rule.zero)) None) (holds_none d)
 
 -- The first i routers of the sequence have their costs, and the others none.
 pub record Fallen {C : Type 0} (N : Network C) (root v : ℕ) (order : List ℕ) (f : ℕ → Option C) (i : ℕ) : Type 0 where
@@ -82,13 +87,13 @@ module _ {C : Type 0} (N : Network C) (sound : Sound N) (root v : ℕ) (linked :
             ∙ ap (λ o. by_father N o (fall N F root v) d) e);
       }
 
-  module _ {order : List ℕ} {many : ℕ} (line : NearestFirst N root order many) {f : ℕ → Option C} {i : ℕ} (done : Fallen N root v order f i) where
-    pub father_fallen : i < many → (p : ℕ) → F root (get_or order i 0) ≡ Some p → f p ≡ fall N F root v p
+  module _ {order : List ℕ} (line : NearestFirst N root order) {f : ℕ → Option C} {i : ℕ} (done : Fallen N root v order f i) where
+    pub father_fallen : i < length order → (p : ℕ) → F root (get_or order i 0) ≡ Some p → f p ≡ fall N F root v p
     father_fallen l p e =
-        let b = after_father N sound root order many line (get_or order i 0) p e in
-        ap f (sym b.4) ∙ done.at_place b.0 (omega (arith, b.2, same_place N sound root order many line b.1 i b.3 l b.5)) ∙ ap (fall N F root v) b.4
+        let b = after_father N sound root order line (get_or order i 0) p e in
+        ap f (sym b.4) ∙ done.at_place b.0 (omega (arith, b.2, same_place N sound root order line b.1 i b.3 l b.5)) ∙ ap (fall N F root v) b.4
 
-    module _ {f' : ℕ → Option C} (l : i < many) (s : (x : ℕ) → f' x ≡ with_offer N.rule f (get_or order i 0) (own_cost N v (F root (get_or order i 0)) f (get_or order i 0)) x) where
+    module _ {f' : ℕ → Option C} (l : i < length order) (s : (x : ℕ) → f' x ≡ with_offer N.rule f (get_or order i 0) (own_cost N v (F root (get_or order i 0)) f (get_or order i 0)) x) where
       abbrev d : ℕ
       d = get_or order i 0
 
@@ -117,7 +122,7 @@ module _ {C : Type 0} (N : Network C) (sound : Sound N) (root v : ℕ) (linked :
             none = λ x lx e nv. ⊎_elim (λ (q : x ≡ d). ap f' q ∙ value ∙ sym (ap (fall N F root v) q)) (λ ne. kept x ne ∙ done.none x lx e nv) (cases_eq x d);
           }
 
-    pub fallen_all : many ≤ i → (d : ℕ) → d < N.count → f d ≡ fall N F root v d
+    pub fallen_all : length order ≤ i → (d : ℕ) → d < N.count → f d ≡ fall N F root v d
     fallen_all h d l =
         ⊎_elim
         (λ e. ⊎_elim
@@ -127,6 +132,6 @@ module _ {C : Type 0} (N : Network C) (sound : Sound N) (root v : ℕ) (linked :
         let p = line.each d l (ap is_some (subst (λ z. best N root z ≡ Some b.0) (sym q) b.1)) in
         ap f (sym p.2) ∙ done.at_place p.0 (omega (arith, p.1)) ∙ ap (fall N F root v) p.2)
         (λ ne. done.none d l e ne) (cases_eq d v))
-        (λ q. let b = after_father N sound root order many line d q.0 q.1 in
+        (λ q. let b = after_father N sound root order line d q.0 q.1 in
         ap f (sym b.5) ∙ done.at_place b.1 (omega (arith, b.3)) ∙ ap (fall N F root v) b.5)
         (cases_option (F root d))

@@ -4,3 +4,4 @@ pub mod Offers
 pub mod Rows
 pub mod Climbs
 pub mod Falls
+pub mod Crossings

@@ -1,5 +1,5 @@
 -- The passes of the rest costs of one neighbour.
-use Rattle.std.proofs.Common.{◌≡◌, ℕ, ◌+◌, ◌<◌, ◌≤◌, eqb, ◌≢◌, List, get_or, Some, None, Option, sym, refl, ap, ◌∙◌, ap₂, ⊎_elim, arith}
+use Rattle.std.proofs.Common.{◌≡◌, ℕ, ◌+◌, ◌<◌, ◌≤◌, eqb, ◌≢◌, List, length, get_or, Some, None, Option, sym, refl, ap, ◌∙◌, ap₂, ⊎_elim, arith}
 use Rattle.std.proofs.lemmas.Bool.{cases_eq, cases_lt, cond-true, cond-false, eq-eqb, ne_eqb}
 use Rattle.routes.specs.Leasts.{lesser, joined}
 use Rattle.routes.specs.Network.{Network, Sound}
@@ -10,9 +10,10 @@ use Rattle.routes.proofs.Fathers.{lowest_chooses}
 use Rattle.routes.proofs.Members.{cases_option}
 use Rattle.routes.proofs.Order.{least_some}
 use Rattle.routes.proofs.Theorems.{rest_is_least_lem, transverse_routes_avoid_lem, passes_solve_lem}
-use Rattle.search.specs.Found.{NearestFirst}
-use Rattle.search.specs.Steps.{with_offer, Short}
+use Rattle.squares.specs.Found.{NearestFirst}
+use Rattle.squares.specs.Known.{with_offer, Short}
 use Rattle.settling.specs.Rows.{by_father}
+use Rattle.squares.proofs.Offers.{lesser_none}
 use Rattle.settling.proofs.Orders.{after_father, same_place}
 use Rattle.settling.proofs.Trees.{joins_route}
 
@@ -43,27 +44,22 @@ module _ {C : Type 0} (N : Network C) (sound : Sound N) (root v : ℕ) where
   unfolding lowered
   lowered_rest d = (passes_solve_lem C N sound F (lowest_chooses N sound) root v).descending d
 
-  lesser_none : (o : Option C) → lesser N.rule o None ≡ o
-  unfolding lesser
-  lesser_none None = refl
-  lesser_none (Some a) = refl
-
   pub descended_first : (order : List ℕ) (f : ℕ → Option C) → ((d : ℕ) → d < N.count → f d ≡ climbed N F root v d) → Descended N root v order f 0
   descended_first order f h =
       record {
         at = λ j l. absurd (omega arith);
         waits = λ d l _. h d l;
-        none = λ d l e. h d l ∙ sym (lowered_rest d ∙ ap (λ o. lesser N.rule (climbed N F root v d) (by_father N o (rest N F root v) d)) e ∙ lesser_none (climbed N F root v d));
+        none = λ d l e. h d l ∙ sym (lowered_rest d ∙ ap (λ o. lesser N.rule (climbed N F root v d) (by_father N o (rest N F root v) d)) e ∙ lesser_none N.rule (climbed N F root v d));
       }
 
-  module _ {order : List ℕ} {many : ℕ} (line : NearestFirst N root order many) {f : ℕ → Option C} {i : ℕ} (done : Descended N root v order f i) where
+  module _ {order : List ℕ} (line : NearestFirst N root order) {f : ℕ → Option C} {i : ℕ} (done : Descended N root v order f i) where
     -- the father of the next router has its rest cost
-    pub father_done : i < many → (p : ℕ) → F root (get_or order i 0) ≡ Some p → f p ≡ rest N F root v p
+    pub father_done : i < length order → (p : ℕ) → F root (get_or order i 0) ≡ Some p → f p ≡ rest N F root v p
     father_done l p e =
-        let b = after_father N sound root order many line (get_or order i 0) p e in
-        ap f (sym b.4) ∙ done.at b.0 (omega (arith, b.2, same_place N sound root order many line b.1 i b.3 l b.5)) ∙ ap (rest N F root v) b.4
+        let b = after_father N sound root order line (get_or order i 0) p e in
+        ap f (sym b.4) ∙ done.at b.0 (omega (arith, b.2, same_place N sound root order line b.1 i b.3 l b.5)) ∙ ap (rest N F root v) b.4
 
-    module _ {f' : ℕ → Option C} (l : i < many) (s : (x : ℕ) → f' x ≡ with_offer N.rule f (get_or order i 0) (by_father N (F root (get_or order i 0)) f (get_or order i 0)) x) where
+    module _ {f' : ℕ → Option C} (l : i < length order) (s : (x : ℕ) → f' x ≡ with_offer N.rule f (get_or order i 0) (by_father N (F root (get_or order i 0)) f (get_or order i 0)) x) where
       abbrev d : ℕ
       d = get_or order i 0
 
@@ -91,9 +87,9 @@ module _ {C : Type 0} (N : Network C) (sound : Sound N) (root v : ℕ) where
             none = λ x lx e. ⊎_elim (λ (q : x ≡ d). ap f' q ∙ value ∙ sym (ap (rest N F root v) q)) (λ ne. kept x ne ∙ done.none x lx e) (cases_eq x d);
           }
 
-    pub descended_all : many ≤ i → (d : ℕ) → d < N.count → f d ≡ rest N F root v d
+    pub descended_all : length order ≤ i → (d : ℕ) → d < N.count → f d ≡ rest N F root v d
     descended_all h d l =
         ⊎_elim (λ e. done.none d l e)
-        (λ q. let b = after_father N sound root order many line d q.0 q.1 in
+        (λ q. let b = after_father N sound root order line d q.0 q.1 in
         ap f (sym b.5) ∙ done.at b.1 (omega (arith, b.3)) ∙ ap (rest N F root v) b.5)
         (cases_option (F root d))

@@ -14,9 +14,9 @@ use Rattle.routes.proofs.Fathers.{lowest_chooses}
 use Rattle.routes.proofs.Members.{cases_option, lowest_passes, lowest_some, lowest_first_lem}
 use Rattle.routes.proofs.Order.{least_some}
 use Rattle.routes.proofs.Theorems.{best_is_least_lem}
-use Rattle.search.specs.Found.{Searched}
-use Rattle.search.specs.Steps.{costs_in, Short}
-use Rattle.search.specs.declared.found.Found.{Found}
+use Rattle.squares.specs.Found.{Searched}
+use Rattle.squares.specs.Known.{costs_in, Short}
+use Rattle.squares.specs.declared.found.Found.{Found}
 use Rattle.settling.specs.Trees.{Shorts, passes, father_by, hop_by, Hops, FathersFirst}
 
 -- The hops of the first i routers of the sequence are written, and none of a router without a father.
@@ -53,6 +53,10 @@ pub best_short : {C : Type 0} (N : Network C) (sound : Sound N) (root d : ℕ) (
 best_short {C} N sound root d b e =
     let r = (least_some N.rule sound.lawful (λ c. (k : ℕ) × (k ≤ 99) × Route N k root d c) (best N root d) b (best_is_least_lem C N sound root d) e).holds in
     (r.0, omega (arith, r.1), joins_route N sound r.2)
+
+-- there is no link to a router past the count
+pub unlinked : {C : Type 0} (N : Network C) (sound : Sound N) (a b : ℕ) → N.count ≤ b → N.link a b ≡ None
+unlinked N sound a b l = ⊎_elim (λ e. e) (λ q. absurd (omega (arith, sound.to a b q.0 q.1))) (cases_option (N.link a b))
 
 -- a router past the count has no father
 pub fatherless : {C : Type 0} (N : Network C) (sound : Sound N) (root d : ℕ) → N.count ≤ d → lowest_father N root d ≡ None
@@ -103,9 +107,9 @@ all_none (suc n) zero = refl
 all_none (suc n) (suc k) = all_none n k
 
 -- The hops after some routers of the sequence, and the next, d.
-module _ {fathers : List (Option ℕ)} {root : ℕ} {order : List ℕ} {many : ℕ} (first : FathersFirst fathers root order many) {hops : List (Option ℕ)} {i : ℕ}
+module _ {fathers : List (Option ℕ)} {root : ℕ} {order : List ℕ} (first : FathersFirst fathers root order) {hops : List (Option ℕ)} {i : ℕ}
     (done : Hopped fathers root order hops i) where
-  module _ {d : ℕ} {v : Option ℕ} (l : i < many) (e : get_or order i 0 ≡ d) (ev : v ≡ hop_by fathers root (λ x. get_or hops x None) d) where
+  module _ {d : ℕ} {v : Option ℕ} (l : i < length order) (e : get_or order i 0 ≡ d) (ev : v ≡ hop_by fathers root (λ x. get_or hops x None) d) where
     inside : d < length hops
     inside = omega (arith, done.long, subst (λ z. z < 32) e (first.routers i l))
 
@@ -137,7 +141,7 @@ module _ {fathers : List (Option ℕ)} {root : ℕ} {order : List ℕ} {many : �
               (cases_eq x d);
         }
 
-  pub hopped_all : many ≤ i → (h : ℕ → Option ℕ) → Hops fathers root h → hops ≡ map h (range_with_len 0 32)
+  pub hopped_all : length order ≤ i → (h : ℕ → Option ℕ) → Hops fathers root h → hops ≡ map h (range_with_len 0 32)
   hopped_all l h s =
       fill_by_all h hops 32 None done.long
       (λ k _. ⊎_elim

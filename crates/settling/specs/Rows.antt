@@ -1,18 +1,23 @@
 -- Costs at each router, passed on along the tree.
-use Rattle.std.specs.Prelude.{◌≡◌, ℕ, ◌<◌, cond, ◌&&◌, List, map, Some, None, Option, ◌==◌, slice_index_or}
+use Rattle.std.specs.Prelude.{◌≡◌, ℕ, ◌<◌, Bool, cond, not, ◌&&◌, List, map, is_some, Some, None, Option, ◌==◌, slice_index_or}
 use Rattle.std.specs.List.{range_with_len}
 use Rattle.routes.specs.Leasts.{joined, lesser}
 use Rattle.routes.specs.Lists.{when_some, is_number}
 use Rattle.routes.specs.Network.{Network}
 use Rattle.routes.specs.Routes.{avoids}
-use Rattle.routes.specs.Tree.{lowest_father}
-use Rattle.search.specs.Found.{NearestFirst}
-use Rattle.search.specs.declared.found.Found.{Found}
+use Rattle.routes.specs.Tree.{lowest_father, hop}
+use Rattle.squares.specs.Found.{NearestFirst}
 use Rattle.settling.specs.Trees.{CanJoin}
+use Rattle.settling.specs.declared.tree.Tree.{Tree}
 
 -- the fathers are the lowest, and the sequence goes by best cost
-abbrev pub TreeKnown : {C : Type 0} → Network C → ℕ → List (Option ℕ) → Found → Type 0
-TreeKnown N root fathers found = (fathers ≡ map (lowest_father N root) (range_with_len 0 32)) × NearestFirst N root found.order found.many
+pub record TreeKnown {C : Type 0} (N : Network C) (tree : Tree) : Type 0 where
+  pub father : tree.father ≡ map (lowest_father N tree.root) (range_with_len 0 32)
+  pub order : NearestFirst N tree.root tree.found.order.items
+
+-- the tree hops go by the lowest fathers
+abbrev pub HopsKnown : {C : Type 0} → Network C → Tree → Type 0
+HopsKnown N tree = tree.hop ≡ map (hop N (lowest_father N) tree.root) (range_with_len 0 32)
 
 -- the cost at d that the cost of its father gives
 abbrev pub by_father : {C : Type 0} → Network C → Option ℕ → (ℕ → Option C) → ℕ → Option C
@@ -33,3 +38,11 @@ ToFather N fathers f x = (p : ℕ) → slice_index_or fathers x None ≡ Some p 
 -- the cost of the tree path from v down to d, by that of its father
 abbrev pub own_cost : {C : Type 0} → Network C → ℕ → Option ℕ → (ℕ → Option C) → ℕ → Option C
 own_cost N v father f d = cond (v == d) (Some N.rule.zero) (by_father N father f d)
+
+-- whether the tree hop is there, and is another than v
+abbrev pub other_hop : ℕ → Option ℕ → Bool
+other_hop v h = is_some h && not (is_number h v)
+
+-- what y, with this tree hop, is offered over the link from x, to which the tree path from v has this cost: nothing in the branch of v
+abbrev pub crossing : {C : Type 0} → Network C → ℕ → Option ℕ → ℕ → Option C → ℕ → Option C
+crossing N v h x cost y = cond (other_hop v h) (joined N.rule cost (N.link x y)) None

@@ -1,10 +1,10 @@
 -- Fathers by the costs that are known, and tree hops by the fathers.
-use Rattle.std.specs.Prelude.{◌≡◌, ℕ, ◌<◌, ◌≤◌, Bool, cond, ◌⊎◌, List, Some, None, Option, ◌==◌, slice_index, slice_index_or}
+use Rattle.std.specs.Prelude.{◌≡◌, ℕ, ◌<◌, ◌≤◌, Bool, cond, ◌⊎◌, List, length, Some, None, Option, ◌==◌, slice_index, slice_index_or}
 use Rattle.costs.specs.Costs.{Costs, Joinable}
 use Rattle.routes.specs.Leasts.{joined, same}
 use Rattle.routes.specs.Lists.{lowest, when_some}
 use Rattle.routes.specs.Network.{Network}
-use Rattle.search.specs.Steps.{Short}
+use Rattle.squares.specs.Known.{Short}
 
 -- two costs that can be joined where both are there
 abbrev pub CanJoin : {C : Type 0} → Costs C → Option C → Option C → Type 0
@@ -30,10 +30,10 @@ hop_by fathers root h d = when_some (slice_index_or fathers d None) None (λ x. 
 abbrev pub Hops : List (Option ℕ) → ℕ → (ℕ → Option ℕ) → Type 0
 Hops fathers root h = (d : ℕ) → h d ≡ hop_by fathers root h d
 
--- The first `many` of an order have every router with a father, after its father where that is not the root.
-pub record FathersFirst (fathers : List (Option ℕ)) (root : ℕ) (order : List ℕ) (many : ℕ) : Type 0 where
-  pub fits : many ≤ 32
-  pub routers : (i : ℕ) → i < many → slice_index order i < 32
+-- An order that has every router with a father, after its father where that is not the root.
+pub record FathersFirst (fathers : List (Option ℕ)) (root : ℕ) (order : List ℕ) : Type 0 where
+  pub fits : length order ≤ 32
+  pub routers : (i : ℕ) → i < length order → slice_index order i < 32
   pub bounded : (d x : ℕ) → slice_index_or fathers d None ≡ Some x → x < 32
-  pub each : (d x : ℕ) → slice_index_or fathers d None ≡ Some x → (i : ℕ) × (i < many) × (slice_index order i ≡ d)
-  pub before : (i x : ℕ) → i < many → slice_index_or fathers (slice_index order i) None ≡ Some x → (x ≡ root) ⊎ ((j : ℕ) × (j < i) × (slice_index order j ≡ x))
+  pub each : (d x : ℕ) → slice_index_or fathers d None ≡ Some x → (i : ℕ) × (i < length order) × (slice_index order i ≡ d)
+  pub before : (i x : ℕ) → i < length order → slice_index_or fathers (slice_index order i) None ≡ Some x → (x ≡ root) ⊎ ((j : ℕ) × (j < i) × (slice_index order j ≡ x))

@@ -1,98 +1,85 @@
 // The page of one root, worked out from the best costs that a search left: fathers, tree hops, and the passes of the rest costs.
 #![tactic(auto)]
+// kept: a row that the caller lends and the mask of the routers with a cost in it are two parameters. A struct of both is no plainer:
+// it holds a `&mut`, so each call would make it anew, and the clauses speak of the row and of the mask that the call answers.
 
-ghost use Rattle.std.specs.Prelude.{◌≡◌, ℕ, ◌<◌, ◌≤◌, true, map, length, get_or, is_some, Some, None, Option, slice_index_or};
+ghost use Rattle.std.specs.Prelude.{◌≡◌, ℕ, ◌<◌, ◌≤◌, true, ◌≢◌, map, length, get_or, is_some, Some, None, Option, slice_index_or};
 ghost use Rattle.std.specs.List.{range_with_len};
 ghost use Rattle.routes.specs.Leasts.{joined, same};
 ghost use Rattle.routes.specs.Settling.{started, climbed};
 ghost use Rattle.routes.specs.Transverse.{rest};
-ghost use Rattle.routes.specs.Tree.{lowest_father, hop, fall};
-ghost use Rattle.search.specs.Found.{Searched};
-ghost use Rattle.search.specs.Matrix.{matrix, Square};
-ghost use Rattle.search.specs.Steps.{costs_in, with_offer};
+ghost use Rattle.routes.specs.Tree.{lowest_father, fall};
+ghost use Rattle.squares.specs.Found.{Searched};
+ghost use Rattle.squares.specs.Meaning.{network_of};
+ghost use Rattle.squares.specs.Known.{costs_in, with_offer};
 ghost use Rattle.settling.specs.Trees.{CanJoin, Shorts, passes, father_by, hop_by, Hops, FathersFirst};
-ghost use Rattle.settling.specs.Rows.{own_cost, ByFather, ToFather, TreeKnown, by_father, to_father};
+ghost use Rattle.settling.specs.Rows.{own_cost, ByFather, ToFather, TreeKnown, HopsKnown, by_father, to_father};
 
 use costs::Cost;
 use masks::{has, with};
-use search::{Found, link};
+use squares::{Found, LinkCosts};
 
+mod starts;
 pub mod tree;
 
+pub use starts::rest_row;
 pub use tree::Tree;
 
 // The cost that a memory holds for a router of the mask.
-fn cost_of<C: Cost>(best: &[C], known: u32, router: usize) -> Option<C>
+pub(crate) fn cost_of<C: Cost>(best: &[C], known: u32, router: usize) -> Option<C>
     requires { router < length best.now }
     ensures { result ≡ costs_in C.Cost.costs best.now known router }
 {
-    if has(known, router) {
-        Some(best[router])
-    } else {
-        None
-    }
+    has(known, router).then_some(best[router])
 }
 
 // Two costs joined, where both are there.
-fn onward<C: Cost>(cost: Option<C>, link: Option<C>) -> Option<C>
+#[tactic(auto, unfolding(routes::specs::Leasts::joined))]
+pub(crate) fn onward<C: Cost>(cost: Option<C>, link: Option<C>) -> Option<C>
     requires { CanJoin C.Cost.costs cost link }
     ensures { result ≡ joined C.Cost.costs cost link }
 {
-    match cost {
-        None => None,
-        Some(c) => match link {
-            None => None,
-            Some(l) => Some(c.join(l)),
-        },
-    }
+    Some(cost?.join(link?))
 }
 
 // Whether both costs are there, and neither is lower.
+#[tactic(auto, unfolding(routes::specs::Leasts::same))]
 fn equal<C: Cost>(a: Option<C>, b: Option<C>) -> bool
     ensures { result ≡ same C.Cost.costs a b }
 {
-    match a {
-        None => false,
-        Some(x) => match b {
-            None => false,
-            Some(y) => !x.lower(y) && !y.lower(x),
-        },
-    }
+    a.zip(b).is_some_and(|(x, y)| !x.lower(y) && !y.lower(x))
 }
 
 // Whether the cost of one router, joined with that of its link to another, is the cost of the other.
-fn comes_by<C: Cost>(
-    links: &[Option<C>],
-    count: usize,
+fn comes_by<C: Cost, L: LinkCosts<C>>(
+    links: &L,
     best: &[C],
     known: u32,
     from: usize,
     to: usize,
 ) -> bool
-    requires square { Square C.Cost.costs links.now count }
-    requires inside { (from < count) × (to < count) × (count ≤ length best.now) }
-    requires short { Shorts C.Cost.costs count (costs_in C.Cost.costs best.now known) }
-    ensures { result ≡ passes (matrix C.Cost.costs count links.now) (costs_in C.Cost.costs best.now known) to from }
+    requires inside { (from < L.LinkCosts.routers links.now) × (to < L.LinkCosts.routers links.now) × (L.LinkCosts.routers links.now ≤ length best.now) }
+    requires short { Shorts C.Cost.costs (L.LinkCosts.routers links.now) (costs_in C.Cost.costs best.now known) }
+    ensures { result ≡ passes (network_of C.Cost.costs L.LinkCosts links.now) (costs_in C.Cost.costs best.now known) to from }
 {
-    let way = onward(cost_of(best, known, from), link(links, count, from, to));
+    let way = onward(cost_of(best, known, from), links.link(from, to));
     equal(way, cost_of(best, known, to))
 }
 
 // The lowest router by which the cost of a router comes.
-fn father_of<C: Cost>(
-    links: &[Option<C>],
-    count: usize,
+// kept: `find` over the numbers was tried; from what it ensures the check finds no proof that no number before passed
+fn father_of<C: Cost, L: LinkCosts<C>>(
+    links: &L,
     best: &[C],
     known: u32,
     router: usize,
 ) -> Option<usize>
-    requires square { Square C.Cost.costs links.now count }
-    requires inside { (router < count) × (count ≤ length best.now) }
-    requires short { Shorts C.Cost.costs count (costs_in C.Cost.costs best.now known) }
-    ensures { result ≡ father_by (matrix C.Cost.costs count links.now) (costs_in C.Cost.costs best.now known) router }
+    requires inside { (router < L.LinkCosts.routers links.now) × (L.LinkCosts.routers links.now ≤ length best.now) }
+    requires short { Shorts C.Cost.costs (L.LinkCosts.routers links.now) (costs_in C.Cost.costs best.now known) }
+    ensures { result ≡ father_by (network_of C.Cost.costs L.LinkCosts links.now) (costs_in C.Cost.costs best.now known) router }
 {
-    for from in 0..count {
-        if comes_by(links, count, best, known, from, router) {
+    for from in 0..links.count() {
+        if comes_by(links, best, known, from, router) {
             return Some(from);
         }
     }
@@ -100,20 +87,18 @@ fn father_of<C: Cost>(
 }
 
 // The father of each router on the page of the root, by what a search from there left: of the possible ones the lowest.
-pub fn fathers<C: Cost>(
-    links: &[Option<C>],
-    count: usize,
+pub fn fathers<C: Cost, L: LinkCosts<C>>(
+    links: &L,
     root: usize,
     best: &[C],
-    found: Found,
+    found: &Found,
 ) -> [Option<usize>; 32]
-    requires square { Square C.Cost.costs links.now count }
-    requires left { Searched (matrix C.Cost.costs count links.now) root best.now best.now found }
-    ensures { result ≡ map (lowest_father (matrix C.Cost.costs count links.now) root) (range_with_len 0 32) }
+    requires left { Searched (network_of C.Cost.costs L.LinkCosts links.now) root best.now best.now found.now }
+    ensures { result ≡ map (lowest_father (network_of C.Cost.costs L.LinkCosts links.now) root) (range_with_len 0 32) }
 {
     let mut fathers = [None; 32];
-    for d in 0..count {
-        fathers[d] = father_of(links, count, best, found.known, d);
+    for d in 0..links.count() {
+        fathers[d] = father_of(links, best, found.known, d);
     }
     fathers
 }
@@ -128,47 +113,49 @@ fn hop_of(
     requires { (router < 32) × ((x : ℕ) → slice_index_or fathers.now router None ≡ Some x → x < 32) }
     ensures { result ≡ hop_by fathers.now root (λ x. get_or hops.now x None) router }
 {
-    match fathers[router] {
-        None => None,
-        Some(x) => { if x == root { Some(router) } else { hops[x] } }
+    let x = fathers[router]?;
+    if x == root {
+        return Some(router);
     }
+    hops[x]
 }
 
 // The tree hop of each router, along an order in which fathers stand before their children.
-pub fn tree_hops(fathers: &[Option<usize>; 32], root: usize, found: Found) -> [Option<usize>; 32]
-    requires { FathersFirst fathers.now root found.order found.many }
+pub fn tree_hops(fathers: &[Option<usize>; 32], root: usize, found: &Found) -> [Option<usize>; 32]
+    requires { FathersFirst fathers.now root found.now.order.items }
     ensures { (h : ℕ → Option ℕ) → Hops fathers.now root h → result ≡ map h (range_with_len 0 32) }
 {
     let mut hops = [None; 32];
-    for i in 0..found.many {
-        let d = found.order[i] as usize;
+    for &router in found.order.as_slice() {
+        let d = router as usize;
         hops[d] = hop_of(fathers, &hops, root, d);
     }
     hops
 }
 
 // The fathers and the tree hops on the page of the root, by what a search from there left.
-pub fn tree_of<C: Cost>(
-    links: &[Option<C>],
-    count: usize,
-    root: usize,
-    best: &[C],
-    found: Found,
-) -> Tree
-    requires square { Square C.Cost.costs links.now count }
-    requires left { Searched (matrix C.Cost.costs count links.now) root best.now best.now found }
-    ensures father { result.father ≡ map (lowest_father (matrix C.Cost.costs count links.now) root) (range_with_len 0 32) }
-    ensures hop { result.hop ≡ map (hop (matrix C.Cost.costs count links.now) (lowest_father (matrix C.Cost.costs count links.now)) root) (range_with_len 0 32) }
+pub fn tree_of<C: Cost, L: LinkCosts<C>>(links: &L, root: usize, best: &[C], found: Found) -> Tree
+    requires left { Searched (network_of C.Cost.costs L.LinkCosts links.now) root best.now best.now found }
+    ensures root { result.root ≡ root }
+    ensures found { result.found ≡ found }
+    ensures tree { TreeKnown (network_of C.Cost.costs L.LinkCosts links.now) result }
+    ensures hops { HopsKnown (network_of C.Cost.costs L.LinkCosts links.now) result }
 {
-    let father = fathers(links, count, root, best, found);
-    let hop = tree_hops(&father, root, found);
-    Tree { father, hop }
+    let father = fathers(links, root, best, &found);
+    let hop = tree_hops(&father, root, &found);
+    Tree {
+        root,
+        found,
+        father,
+        hop,
+    }
 }
 
 // Offers a cost to a router of a row, which takes it where it had none or a higher one.
-fn take_offer<C: Cost>(row: &mut [C], reached: u32, to: usize, offered: Option<C>) -> u32
+pub(crate) fn take_offer<C: Cost>(row: &mut [C], reached: u32, to: usize, offered: Option<C>) -> u32
     requires { (to < length row.old) × (to < 32) }
     ensures costs { (d : ℕ) → costs_in C.Cost.costs row.new result d ≡ with_offer C.Cost.costs (costs_in C.Cost.costs row.old reached) to offered d }
+    ensures others { (k : ℕ) → k ≢ to → slice_index_or row.new k C.Cost.costs.zero ≡ slice_index_or row.old k C.Cost.costs.zero }
     ensures size { length row.new ≡ length row.old }
 {
     let Some(cost) = offered else {
@@ -181,153 +168,125 @@ fn take_offer<C: Cost>(row: &mut [C], reached: u32, to: usize, offered: Option<C
     with(reached, to)
 }
 
-// Offers a router the way down from its father.
-fn descend_to<C: Cost>(
-    links: &[Option<C>],
-    count: usize,
-    fathers: &[Option<usize>; 32],
-    row: &mut [C],
+// The cost that the way down from its father gives a router.
+fn way_down<C: Cost, L: LinkCosts<C>>(
+    links: &L,
+    tree: &Tree,
+    row: &[C],
     reached: u32,
     to: usize,
-) -> u32
-    requires square { Square C.Cost.costs links.now count }
-    requires inside { (to < count) × (count ≤ length row.old) }
-    requires father { ByFather (matrix C.Cost.costs count links.now) fathers.now (costs_in C.Cost.costs row.old reached) to }
-    ensures costs { (d : ℕ) → costs_in C.Cost.costs row.new result d ≡ with_offer C.Cost.costs (costs_in C.Cost.costs row.old reached) to (by_father (matrix C.Cost.costs count links.now) (slice_index_or fathers.now to None) (costs_in C.Cost.costs row.old reached) to) d }
-    ensures size { length row.new ≡ length row.old }
+) -> Option<C>
+    requires inside { (to < L.LinkCosts.routers links.now) × (L.LinkCosts.routers links.now ≤ length row.now) }
+    requires father { ByFather (network_of C.Cost.costs L.LinkCosts links.now) tree.now.father (costs_in C.Cost.costs row.now reached) to }
+    ensures { result ≡ by_father (network_of C.Cost.costs L.LinkCosts links.now) (slice_index_or tree.now.father to None) (costs_in C.Cost.costs row.now reached) to }
 {
-    match fathers[to] {
-        None => reached,
-        Some(p) => {
-            let way = onward(cost_of(row, reached, p), link(links, count, p, to));
-            take_offer(row, reached, to, way)
-        }
-    }
+    let p = tree.father[to]?;
+    onward(cost_of(row, reached, p), links.link(p, to))
 }
 
 // The descending pass of the rest costs of a neighbour, along the sequence: from the costs of the best climbs to the rest costs.
-pub fn descend<C: Cost>(
-    links: &[Option<C>],
-    count: usize,
-    root: usize,
+pub fn descend<C: Cost, L: LinkCosts<C>>(
+    links: &L,
+    tree: &Tree,
     neighbour: usize,
-    fathers: &[Option<usize>; 32],
-    found: Found,
     row: &mut [C],
     mut reached: u32,
 ) -> u32
-    requires square { Square C.Cost.costs links.now count }
-    requires places { count ≤ length row.old }
-    requires tree { TreeKnown (matrix C.Cost.costs count links.now) root fathers.now found }
-    requires climbs { (d : ℕ) → d < count → costs_in C.Cost.costs row.old reached d ≡ climbed (matrix C.Cost.costs count links.now) (lowest_father (matrix C.Cost.costs count links.now)) root neighbour d }
-    ensures costs { (d : ℕ) → d < count → costs_in C.Cost.costs row.new result d ≡ rest (matrix C.Cost.costs count links.now) (lowest_father (matrix C.Cost.costs count links.now)) root neighbour d }
+    requires places { L.LinkCosts.routers links.now ≤ length row.old }
+    requires tree { TreeKnown (network_of C.Cost.costs L.LinkCosts links.now) tree.now }
+    requires climbs { (d : ℕ) → d < L.LinkCosts.routers links.now → costs_in C.Cost.costs row.old reached d ≡ climbed (network_of C.Cost.costs L.LinkCosts links.now) (lowest_father (network_of C.Cost.costs L.LinkCosts links.now)) tree.now.root neighbour d }
+    ensures costs { (d : ℕ) → d < L.LinkCosts.routers links.now → costs_in C.Cost.costs row.new result d ≡ rest (network_of C.Cost.costs L.LinkCosts links.now) (lowest_father (network_of C.Cost.costs L.LinkCosts links.now)) tree.now.root neighbour d }
+    ensures past { (d : ℕ) → L.LinkCosts.routers links.now ≤ d → costs_in C.Cost.costs row.new result d ≡ costs_in C.Cost.costs row.old reached d }
     ensures size { length row.new ≡ length row.old }
 {
-    for i in 0..found.many {
-        let to = found.order[i] as usize;
-        reached = descend_to(links, count, fathers, row, reached, to);
+    for &router in tree.found.order.as_slice() {
+        let to = router as usize;
+        let way = way_down(links, tree, row, reached, to);
+        reached = take_offer(row, reached, to, way);
     }
     reached
 }
 
 // Offers the father of a router the way up from it, but never the root.
-fn climb_from<C: Cost>(
-    links: &[Option<C>],
-    count: usize,
-    root: usize,
-    fathers: &[Option<usize>; 32],
+fn climb_from<C: Cost, L: LinkCosts<C>>(
+    links: &L,
+    tree: &Tree,
     row: &mut [C],
     reached: u32,
     from: usize,
 ) -> u32
-    requires square { Square C.Cost.costs links.now count }
-    requires inside { (from < count) × (count ≤ length row.old) }
-    requires father { ToFather (matrix C.Cost.costs count links.now) fathers.now (costs_in C.Cost.costs row.old reached) from }
-    ensures costs { (d : ℕ) → costs_in C.Cost.costs row.new result d ≡ to_father (matrix C.Cost.costs count links.now) root (slice_index_or fathers.now from None) (costs_in C.Cost.costs row.old reached) from d }
+    requires inside { (from < L.LinkCosts.routers links.now) × (L.LinkCosts.routers links.now ≤ length row.old) }
+    requires father { ToFather (network_of C.Cost.costs L.LinkCosts links.now) tree.now.father (costs_in C.Cost.costs row.old reached) from }
+    ensures costs { (d : ℕ) → costs_in C.Cost.costs row.new result d ≡ to_father (network_of C.Cost.costs L.LinkCosts links.now) tree.now.root (slice_index_or tree.now.father from None) (costs_in C.Cost.costs row.old reached) from d }
     ensures size { length row.new ≡ length row.old }
 {
-    match fathers[from] {
-        None => reached,
-        Some(p) => {
-            if p == root {
-                return reached;
-            }
-            let way = onward(cost_of(row, reached, from), link(links, count, from, p));
-            take_offer(row, reached, p, way)
-        }
+    let Some(p) = tree.father[from] else {
+        return reached;
+    };
+    if p == tree.root {
+        return reached;
     }
+    let way = onward(cost_of(row, reached, from), links.link(from, p));
+    take_offer(row, reached, p, way)
 }
 
 // The climbing pass of the rest costs of a neighbour, against the sequence: from the costs of its starts to those of the best climbs.
-pub fn climb<C: Cost>(
-    links: &[Option<C>],
-    count: usize,
-    root: usize,
+pub fn climb<C: Cost, L: LinkCosts<C>>(
+    links: &L,
+    tree: &Tree,
     neighbour: usize,
-    fathers: &[Option<usize>; 32],
-    found: Found,
     row: &mut [C],
     mut reached: u32,
 ) -> u32
-    requires square { Square C.Cost.costs links.now count }
-    requires places { count ≤ length row.old }
-    requires tree { TreeKnown (matrix C.Cost.costs count links.now) root fathers.now found }
-    requires starts { (d : ℕ) → costs_in C.Cost.costs row.old reached d ≡ started (matrix C.Cost.costs count links.now) (lowest_father (matrix C.Cost.costs count links.now)) root neighbour d }
-    ensures costs { (d : ℕ) → costs_in C.Cost.costs row.new result d ≡ climbed (matrix C.Cost.costs count links.now) (lowest_father (matrix C.Cost.costs count links.now)) root neighbour d }
+    requires places { L.LinkCosts.routers links.now ≤ length row.old }
+    requires tree { TreeKnown (network_of C.Cost.costs L.LinkCosts links.now) tree.now }
+    requires starts { (d : ℕ) → costs_in C.Cost.costs row.old reached d ≡ started (network_of C.Cost.costs L.LinkCosts links.now) (lowest_father (network_of C.Cost.costs L.LinkCosts links.now)) tree.now.root neighbour d }
+    ensures costs { (d : ℕ) → costs_in C.Cost.costs row.new result d ≡ climbed (network_of C.Cost.costs L.LinkCosts links.now) (lowest_father (network_of C.Cost.costs L.LinkCosts links.now)) tree.now.root neighbour d }
     ensures size { length row.new ≡ length row.old }
 {
-    for i in 0..found.many {
-        let from = found.order[found.many - 1 - i] as usize;
-        reached = climb_from(links, count, root, fathers, row, reached, from);
+    for &router in tree.found.order.as_slice().iter().rev() {
+        let from = router as usize;
+        reached = climb_from(links, tree, row, reached, from);
     }
     reached
 }
 
 // The cost of the tree path from the neighbour down to a router, by that of its father.
-fn own_cost<C: Cost>(
-    links: &[Option<C>],
-    count: usize,
+fn own_cost<C: Cost, L: LinkCosts<C>>(
+    links: &L,
+    tree: &Tree,
     neighbour: usize,
-    fathers: &[Option<usize>; 32],
     row: &[C],
     reached: u32,
     at: usize,
 ) -> Option<C>
-    requires square { Square C.Cost.costs links.now count }
-    requires inside { (at < count) × (count ≤ length row.now) }
-    requires father { ByFather (matrix C.Cost.costs count links.now) fathers.now (costs_in C.Cost.costs row.now reached) at }
-    ensures { result ≡ own_cost (matrix C.Cost.costs count links.now) neighbour (slice_index_or fathers.now at None) (costs_in C.Cost.costs row.now reached) at }
+    requires inside { (at < L.LinkCosts.routers links.now) × (L.LinkCosts.routers links.now ≤ length row.now) }
+    requires father { ByFather (network_of C.Cost.costs L.LinkCosts links.now) tree.now.father (costs_in C.Cost.costs row.now reached) at }
+    ensures { result ≡ own_cost (network_of C.Cost.costs L.LinkCosts links.now) neighbour (slice_index_or tree.now.father at None) (costs_in C.Cost.costs row.now reached) at }
 {
     if neighbour == at {
         return Some(C::zero());
     }
-    match fathers[at] {
-        None => None,
-        Some(p) => onward(cost_of(row, reached, p), link(links, count, p, at)),
-    }
+    way_down(links, tree, row, reached, at)
 }
 
 // The costs of the tree paths from a neighbour down to each router, along the sequence.
-pub fn own_branch<C: Cost>(
-    links: &[Option<C>],
-    count: usize,
-    root: usize,
+pub fn own_branch<C: Cost, L: LinkCosts<C>>(
+    links: &L,
+    tree: &Tree,
     neighbour: usize,
-    fathers: &[Option<usize>; 32],
-    found: Found,
     row: &mut [C],
 ) -> u32
-    requires square { Square C.Cost.costs links.now count }
-    requires places { count ≤ length row.old }
-    requires tree { TreeKnown (matrix C.Cost.costs count links.now) root fathers.now found }
-    requires linked { is_some ((matrix C.Cost.costs count links.now).link root neighbour) ≡ true }
-    ensures costs { (d : ℕ) → d < count → costs_in C.Cost.costs row.new result d ≡ fall (matrix C.Cost.costs count links.now) (lowest_father (matrix C.Cost.costs count links.now)) root neighbour d }
+    requires places { L.LinkCosts.routers links.now ≤ length row.old }
+    requires tree { TreeKnown (network_of C.Cost.costs L.LinkCosts links.now) tree.now }
+    requires linked { is_some ((network_of C.Cost.costs L.LinkCosts links.now).link tree.now.root neighbour) ≡ true }
+    ensures costs { (d : ℕ) → d < L.LinkCosts.routers links.now → costs_in C.Cost.costs row.new result d ≡ fall (network_of C.Cost.costs L.LinkCosts links.now) (lowest_father (network_of C.Cost.costs L.LinkCosts links.now)) tree.now.root neighbour d }
     ensures size { length row.new ≡ length row.old }
 {
     let mut reached = 0;
-    for i in 0..found.many {
-        let to = found.order[i] as usize;
-        let cost = own_cost(links, count, neighbour, fathers, row, reached, to);
+    for &router in tree.found.order.as_slice() {
+        let to = router as usize;
+        let cost = own_cost(links, tree, neighbour, row, reached, to);
         reached = take_offer(row, reached, to, cost);
     }
     reached

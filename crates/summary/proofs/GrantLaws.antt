@@ -1,5 +1,5 @@
 -- The summary is granted exactly of what is written as a link file.
-use Rattle.std.proofs.Common.{◌≡◌, ℕ, Bool, true, false, cond, ◌⊎◌, List, ◌++◌, Some, None, Ok, decimal, Option, Result, refl, ap, ◌∙◌, subst, inl, inr, ⊎_elim, arith}
+use Rattle.std.proofs.Common.{◌≡◌, ℕ, Bool, true, false, cond, ◌⊎◌, List, ◌++◌, Some, None, Ok, decimal, Option, Result, sym, refl, ap, ◌∙◌, subst, inl, inr, ⊎_elim, arith}
 use Rattle.std.proofs.lemmas.Slice.Eq.{bytes_eq-Decides}
 use Rattle.std.specs.Str.{bytes_eq}
 use Rattle.faults.specs.declared.fault.Fault.{Fault}
@@ -96,5 +96,9 @@ module _ (text : List ℕ) where
       let m : how_many (list_all third) ≡ Ok s.directions = ap how_many all ∙ ap Ok f.counted in
       λ i. summary_by (c i) (n i) (m i)
 
-pub granted_exactly : (text : List ℕ) → GrantedExactly text (summary text)
+granted_exactly : (text : List ℕ) → GrantedExactly text (summary text)
 granted_exactly text = record { granted = file_sound text; files = file_complete text }
+
+-- an answer that is the summary is granted exactly
+pub exactly : (text : List ℕ) (r : Result Summary Fault) → r ≡ summary text → GrantedExactly text r
+exactly text r is = subst (GrantedExactly text) (sym is) (granted_exactly text)

@@ -7,7 +7,7 @@ pub mod names;
 pub mod outcome;
 pub mod whole;
 
-pub use answer::{LONGEST_INPUT, judge, tell};
+pub use answer::{LONGEST_INPUT, check_length, judge, tell};
 pub use names::RuleName;
 pub use outcome::Summary;
 pub use whole::summarize;

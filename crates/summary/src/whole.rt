@@ -1,39 +1,13 @@
 ghost use Rattle.std.specs.Prelude.{◌≡◌};
 ghost use Rattle.linkfile.specs.Reading.{stands, onward};
 ghost use Rattle.directions.specs.Files.{list_all};
-ghost use Rattle.summary.specs.Rules.{spelt, named};
 ghost use Rattle.summary.specs.Summaries.{next_rule, how_many, summary, GrantedExactly};
 
 use crate::names::RuleName;
 use crate::outcome::Summary;
 use directions::{next_direction, read_routers, read_rule};
 use faults::Fault;
-use linkfile::{Reader, bad_line, same};
-
-impl RuleName {
-    // The rule of this name, if there is one.
-    pub fn named(name: &[u8]) -> Option<RuleName>
-        ensures { result ≡ named name.now }
-    {
-        if same(name, b"sum") {
-            Some(RuleName::Sum)
-        } else if same(name, b"hops-width") {
-            Some(RuleName::HopsWidth)
-        } else {
-            None
-        }
-    }
-
-    // The rule's name.
-    pub fn name(self) -> &'static str
-        ensures { result.now ≡ spelt self }
-    {
-        match self {
-            RuleName::Sum => "sum",
-            RuleName::HopsWidth => "hops-width",
-        }
-    }
-}
+use linkfile::{Reader, bad_line};
 
 // The rule that the next line names.
 fn read_rule_name(reader: &mut Reader) -> Result<RuleName, Fault>
@@ -42,10 +16,7 @@ fn read_rule_name(reader: &mut Reader) -> Result<RuleName, Fault>
 {
     let line = reader.next_number();
     let name = read_rule(reader)?;
-    match RuleName::named(name) {
-        Some(rule) => Ok(rule),
-        None => Err(bad_line(line)),
-    }
+    RuleName::named(name).ok_or(bad_line(line))
 }
 
 // How many directions are left up to the end of the file.
@@ -60,6 +31,7 @@ fn count_directions(reader: &mut Reader) -> Result<usize, Fault>
 }
 
 // Walks the link file to its end.
+#[tactic(auto, using(crate::proofs::GrantLaws::exactly))]
 pub fn summarize(text: &[u8]) -> Result<Summary, Fault>
     ensures answer { result ≡ summary text.now }
     ensures exact { GrantedExactly text.now result }

@@ -6,13 +6,21 @@ fn is_named<'a, C: Cost>(name: &'a [u8]) -> bool {
     own == name
 }
 
+// Numbers, and the costs that `sum` reads them as.
+const READ_BY_SUM: [(u32, Option<u32>); 5] = [
+    (0, None),
+    (1, Some(1)),
+    (65535, Some(65535)),
+    (65536, None),
+    (u32::MAX, None),
+];
+
 #[test]
 fn sum_reads(rt: HostRuntime) {
-    assert_eq!(rt; <u32 as Cost>::read(0), None);
-    assert_eq!(rt; <u32 as Cost>::read(1), Some(1));
-    assert_eq!(rt; <u32 as Cost>::read(65535), Some(65535));
-    assert_eq!(rt; <u32 as Cost>::read(65536), None);
-    assert_eq!(rt; <u32 as Cost>::read(u32::MAX), None);
+    for case in &READ_BY_SUM {
+        let (number, cost) = *case;
+        assert_eq!(rt; <u32 as Cost>::read(number), cost);
+    }
     assert_eq!(rt; <u32 as Cost>::zero(), 0);
     assert!(rt; <u32 as Cost>::lower(1, 2));
     assert!(rt; !<u32 as Cost>::lower(2, 2));
@@ -21,10 +29,7 @@ fn sum_reads(rt: HostRuntime) {
 
 // Whether the number is read as one hop of its own width.
 fn reads_as_width(number: u32) -> bool {
-    match <PathCost as Cost>::read(number) {
-        Some(cost) => cost.hops == 1 && cost.width == number,
-        None => false,
-    }
+    <PathCost as Cost>::read(number).is_some_and(|cost| cost.hops == 1 && cost.width == number)
 }
 
 #[test]

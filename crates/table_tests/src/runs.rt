@@ -34,6 +34,7 @@ fn cuts<T: LinkTable>(rt: &impl Abort, table: &mut T) {
     assert_eq!(rt; table.number(0, 3), None);
     assert_eq!(rt; table.number(usize::MAX, 0), None);
     assert_eq!(rt; table.number(0, 0), None);
+    assert_eq!(rt; table.number(0, 1), Some(65535));
 }
 
 #[test]
@@ -42,12 +43,10 @@ fn grid_and_list_alike(rt: HostRuntime) {
     let mut grid = Grid::make(&mut cells, 3);
     puts(&rt, &mut grid);
     cuts(&rt, &mut grid);
-    assert_eq!(rt; grid.number(0, 1), Some(65535));
     let mut room = [Record::FREE; 6];
     let mut list = Records::make(&mut room, 3);
     puts(&rt, &mut list);
     cuts(&rt, &mut list);
-    assert_eq!(rt; list.number(0, 1), Some(65535));
 }
 
 #[test]
@@ -95,19 +94,35 @@ fn a_list_of_two_records(rt: HostRuntime) {
     assert_eq!(rt; list.number(1, 0), Some(6));
 }
 
+// Cells and routers of which no grid can be made, and why.
+const NO_GRIDS: [(usize, usize, Refusal); 5] = [
+    (0, 0, Refusal::BadCount),
+    (9, 1, Refusal::BadCount),
+    (9, 33, Refusal::BadCount),
+    (9, usize::MAX, Refusal::BadCount),
+    (8, 3, Refusal::MemoryTooShort),
+];
+
+// Records and routers of which no list can be made, and why.
+const NO_LISTS: [(usize, usize, Refusal); 3] = [
+    (1, 33, Refusal::BadCount),
+    (1, 2, Refusal::MemoryTooShort),
+    (0, 2, Refusal::MemoryTooShort),
+];
+
 #[test]
 fn checks_before_making(rt: HostRuntime) {
     assert_eq!(rt; Grid::check(4, 2), Ok(()));
     assert_eq!(rt; Grid::check(1024, 32), Ok(()));
-    refused(&rt, Grid::check(0, 0), Refusal::BadCount);
-    refused(&rt, Grid::check(9, 1), Refusal::BadCount);
-    refused(&rt, Grid::check(9, 33), Refusal::BadCount);
-    refused(&rt, Grid::check(9, usize::MAX), Refusal::BadCount);
-    refused(&rt, Grid::check(8, 3), Refusal::MemoryTooShort);
+    for case in &NO_GRIDS {
+        let (cells, count, refusal) = *case;
+        refused(&rt, Grid::check(cells, count), refusal);
+    }
     assert_eq!(rt; Records::check(2, 32), Ok(()));
-    refused(&rt, Records::check(1, 33), Refusal::BadCount);
-    refused(&rt, Records::check(1, 2), Refusal::MemoryTooShort);
-    refused(&rt, Records::check(0, 2), Refusal::MemoryTooShort);
+    for case in &NO_LISTS {
+        let (records, count, refusal) = *case;
+        refused(&rt, Records::check(records, count), refusal);
+    }
 }
 
 #[test]

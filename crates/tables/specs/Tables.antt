@@ -35,6 +35,11 @@ abbrev pub empty_table : ℕ → ℕ → ℕ → Table
 empty_table count greatest limit =
     record { kept = no_links; shown = no_links; count = count; greatest = greatest; limit = limit; plain = true }
 
+-- what a check answers: the refusal that it finds, or none
+abbrev pub checked : Option Refusal → Result (Unit {0}) Refusal
+checked None = Ok tt
+checked (Some r) = Err r
+
 -- a router is not below the count; one router is named twice
 abbrev pub pair_refusal : ℕ → ℕ → ℕ → Option Refusal
 pair_refusal count from to =

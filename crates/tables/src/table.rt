@@ -5,6 +5,7 @@ ghost use Rattle.tables.specs.Tables.{table, Lawful, Put, Cut, Unchanged};
 use faults::Fault;
 
 // The links of an area: the numbers that are kept for ordered pairs of routers, and those that are shown.
+// kept: a member for each map and constant and not one for the whole, since a rule of the project wants the two maps to be members.
 pub trait LinkTable {
     ghost kept: { Self → Links };
 

@@ -20,6 +20,7 @@ impl<T: LinkTable> TwoWay<T> {
     }
 }
 
+// kept: clauses of an impl stand in place of the trait's, so put and cut, which say more, repeat those two.
 impl<T: LinkTable> LinkTable for TwoWay<T> {
     ghost kept = { λ t. (two_way_table (means T.LinkTable t.below)).kept };
 
@@ -52,12 +53,8 @@ impl<T: LinkTable> LinkTable for TwoWay<T> {
     }
 
     fn number(&self, from: usize, to: usize) -> Option<u32> {
-        let there = self.below.number(from, to);
-        let back = self.below.number(to, from);
-        match (there, back) {
-            (Some(n), Some(_)) => Some(n),
-            _ => None,
-        }
+        self.below.number(to, from)?;
+        self.below.number(from, to)
     }
 
     fn put(&mut self, from: usize, to: usize, number: u32) -> Result<(), Fault>

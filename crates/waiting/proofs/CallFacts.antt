@@ -57,11 +57,10 @@ module _ {E : Type 0} {before : E → E → Bool} (o : Ordered before) where
       let exchange = IsPermutation-swap (take n xs) (take n ys) 0 (n - 1) (omega arith) (omega arith) (ap (take n) is ∙ take_exchanged xs n 0 (n - 1) pos (omega arith) fits) in
       IsPermutation-trans _ _ _ (subst (IsPermutation (take n xs)) split exchange) (IsPermutation-to_front (take (n - 1) ys) e)
 
-  pub popped : (w v m u : Waiting E) (e : E) → 0 < w.len → memory v ≡ swap (memory w) 0 (w.len - 1) → m.len ≡ w.len - 1 → memory m ≡ memory v → e ≡ get_or (memory w) 0 e
+  pub popped : (w m u : Waiting E) (e : E) → 0 < w.len → memory m ≡ swap (memory w) 0 (w.len - 1) → m.len ≡ w.len - 1 → e ≡ get_or (memory w) 0 e
       → Stirred m u → (Heavy before (memory m) m.len 0 → Heaped before (memory u) u.len) → Popped before e w u
-  popped w v m u e pos moved shorter same first s sifted =
+  popped w m u e pos after shorter first s sifted =
       let n = w.len in
-      let after : memory m ≡ swap (memory w) 0 (n - 1) = same ∙ moved in
       let out = front_out (memory w) (memory m) n e pos w.within after first in
       record {
         len = omega (arith, s.len, shorter);

@@ -3,27 +3,16 @@ use Rattle.std.proofs.Common.{◌≡◌, ℕ, ◌+◌, ◌<◌, Bool, false, Lis
 use Rattle.faults.specs.declared.refusal.Refusal.{Refusal}
 use Rattle.std.specs.List.Sorted.{IsPermutation}
 use Rattle.std.proofs.lemmas.List.{append-nil, length-take-le, nil_from_length, take_all, take_more, take_more_set}
-use Rattle.std.proofs.lemmas.List.Sorted.{IsPermutation-refl, IsPermutation-sym, IsPermutation-trans, IsPermutation-cons, IsPermutation-swap, IsPermutation-to_front, length_permutation}
+use Rattle.std.proofs.lemmas.List.Sorted.{IsPermutation-refl, IsPermutation-sym, IsPermutation-trans, IsPermutation-cons, IsPermutation-middle, IsPermutation-append_right, IsPermutation-to_front, length_permutation}
 use Rattle.std.proofs.ByRecursion.{all_shuffled}
 use Rattle.waiting.specs.Heap.{Heaped}
-use Rattle.waiting.specs.Runs.{push_told, pop_told, Step, Runs, Serves, went_in, came_out, LowestFirst}
+use Rattle.waiting.specs.Runs.{Step, Runs, Serves, went_in, came_out, LowestFirst}
 use Rattle.waiting.specs.Waiting.{memory, queued, InOrder, PushAnswer, PopAnswer}
 use Rattle.waiting.specs.declared.calls.Answer.{Answer}
+use Rattle.waiting.specs.declared.calls.Answer.TheVariants.{Pushed, Popped}
 use Rattle.waiting.specs.declared.calls.Call.{Call}
 use Rattle.waiting.specs.declared.calls.Call.TheVariants.{Push, Pop}
 use Rattle.waiting.specs.declared.list.Waiting.{Waiting}
-
-module _ {E : Type 0} where
-  -- an entry out of the middle
-  middle : (xs ys : List E) (e : E) → IsPermutation (xs ++ e ∷ ys) (e ∷ (xs ++ ys))
-  middle [] ys e = IsPermutation-refl (e ∷ ys)
-  middle (x ∷ xs) ys e =
-      IsPermutation-trans _ _ _ (IsPermutation-cons x _ _ (middle xs ys e))
-      (IsPermutation-swap (x ∷ e ∷ (xs ++ ys)) (e ∷ x ∷ (xs ++ ys)) 0 1 (omega arith) (omega arith) refl)
-
-  behind : (zs xs ys : List E) → IsPermutation xs ys → IsPermutation (zs ++ xs) (zs ++ ys)
-  behind [] xs ys s = s
-  behind (z ∷ zs) xs ys s = IsPermutation-cons z _ _ (behind zs xs ys s)
 
 module _ {E : Type 0} (before : E → E → Bool) where
   -- one call more at the end
@@ -76,7 +65,7 @@ module _ {E : Type 0} (before : E → E → Bool) where
 
   module _ (n : ℕ) (bag : List E) (w m w' : Waiting E) (calls : List (Call E)) (answers : List (Answer E)) (h : Holds n bag w)
       (next : (bag' : List E) → Holds n bag' m → Goes_on n bag' (queued m) calls answers w') where
-    push_first : (e : E) (r : Result (Unit {0}) Refusal) → PushAnswer before e w m r → Goes_on n bag (queued w) (Push e ∷ calls) (push_told r ∷ answers) w'
+    push_first : (e : E) (r : Result (Unit {0}) Refusal) → PushAnswer before e w m r → Goes_on n bag (queued w) (Push e ∷ calls) (Pushed r ∷ answers) w'
     push_first e (Ok u) p =
         let grown : IsPermutation (e ∷ queued w) (queued m) = IsPermutation-trans _ _ _ (IsPermutation-sym _ _ (IsPermutation-to_front (queued w) e)) p.items in
         let after : Holds n (e ∷ bag) m = record {
@@ -90,18 +79,18 @@ module _ {E : Type 0} (before : E → E → Bool) where
           left = go.left;
           serves = (e ∷ bag, (room, refl), go.serves);
           waits = go.waits;
-          kept = IsPermutation-trans _ _ _ (IsPermutation-sym _ _ (middle (went_in calls answers) (queued w) e)) (IsPermutation-trans _ _ _ (behind (went_in calls answers) _ _ grown) go.kept);
+          kept = IsPermutation-trans _ _ _ (IsPermutation-sym _ _ (IsPermutation-middle (went_in calls answers) e (queued w))) (IsPermutation-trans _ _ _ (IsPermutation-append_right (went_in calls answers) _ _ grown) go.kept);
         }
     push_first e (Err x) p =
         let go = next bag (unchanged bag w m p.len p.same h) in
         record {
           left = go.left;
-          serves = (bag, (bag_length bag w h ∙ (p.full ∙ h.size), refl), go.serves);
+          serves = (bag, (p.why, bag_length bag w h ∙ (p.full ∙ h.size), refl), go.serves);
           waits = go.waits;
           kept = subst (λ q. IsPermutation (went_in calls answers ++ q) (came_out answers ++ queued w')) (ap₂ take p.len p.same) go.kept;
         }
 
-    pop_first : (r : Option E) → PopAnswer before w m r → Goes_on n bag (queued w) (Pop ∷ calls) (pop_told r ∷ answers) w'
+    pop_first : (r : Option E) → PopAnswer before w m r → Goes_on n bag (queued w) (Pop ∷ calls) (Popped r ∷ answers) w'
     pop_first (Some e) p =
         let after : Holds n (queued m) m = record {
           size = p.size ∙ h.size;
@@ -113,7 +102,7 @@ module _ {E : Type 0} (before : E → E → Bool) where
           left = go.left;
           serves = (queued m, (IsPermutation-trans _ _ _ h.same p.items, all_shuffled (λ x. before x e ≡ false) (queued w) bag (IsPermutation-sym _ _ h.same) (p.least h.ordered)), go.serves);
           waits = go.waits;
-          kept = IsPermutation-trans _ _ _ (behind (went_in calls answers) _ _ p.items) (IsPermutation-trans _ _ _ (middle (went_in calls answers) (queued m) e) (IsPermutation-cons e _ _ go.kept));
+          kept = IsPermutation-trans _ _ _ (IsPermutation-append_right (went_in calls answers) _ _ p.items) (IsPermutation-trans _ _ _ (IsPermutation-middle (went_in calls answers) e (queued m)) (IsPermutation-cons e _ _ go.kept));
         }
     pop_first None p =
         let go = next bag (unchanged bag w m p.len p.same h) in
@@ -133,12 +122,12 @@ module _ {E : Type 0} (before : E → E → Bool) where
   }
   goes_on n bag w w' [] (a ∷ answers) h none = absurd none
   goes_on n bag w w' (c ∷ calls) [] h none = absurd none
-  goes_on n bag w w' (Push e ∷ calls) (a ∷ answers) h (m, (r, told, p), rest) =
-      subst (λ x. Goes_on n bag (queued w) (Push e ∷ calls) (x ∷ answers) w') told
-      (push_first n bag w m w' calls answers h (λ bag' h'. goes_on n bag' m w' calls answers h' rest) e r p)
-  goes_on n bag w w' (Pop ∷ calls) (a ∷ answers) h (m, (r, told, p), rest) =
-      subst (λ x. Goes_on n bag (queued w) (Pop ∷ calls) (x ∷ answers) w') told
-      (pop_first n bag w m w' calls answers h (λ bag' h'. goes_on n bag' m w' calls answers h' rest) r p)
+  goes_on n bag w w' (Push e ∷ calls) (Pushed r ∷ answers) h (m, p, rest) =
+      push_first n bag w m w' calls answers h (λ bag' h'. goes_on n bag' m w' calls answers h' rest) e r p
+  goes_on n bag w w' (Push e ∷ calls) (Popped o ∷ answers) h (m, never, rest) = absurd never
+  goes_on n bag w w' (Pop ∷ calls) (Pushed r ∷ answers) h (m, never, rest) = absurd never
+  goes_on n bag w w' (Pop ∷ calls) (Popped o ∷ answers) h (m, p, rest) =
+      pop_first n bag w m w' calls answers h (λ bag' h'. goes_on n bag' m w' calls answers h' rest) o p
 
   pub lowest_first_lem : LowestFirst before
   lowest_first_lem w w' calls answers none runs =

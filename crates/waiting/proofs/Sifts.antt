@@ -1,29 +1,25 @@
 -- One step of an entry up or down a heap.
 use Rattle.std.proofs.Common.{◌≡◌, ℕ, zero, suc, ◌+◌, ◌-◌, ◌*◌, ◌/◌, ◌<◌, ◌≤◌, Bool, true, false, List, length, get_or, sym, refl, ap, ◌∙◌, subst, ap₂, ⊎_elim, arith}
-use Rattle.std.proofs.lemmas.Bool.{cases_Bool, cases_eq, both_ways}
+use Rattle.std.proofs.lemmas.Bool.{false_from_ne_true, cases_Bool, cases_eq, both_ways}
 use Rattle.std.proofs.lemmas.List.Edits.{Swapped}
 use Rattle.waiting.specs.Order.{Ordered}
 use Rattle.waiting.specs.Heap.{Heaped, Light, Heavy, LeastChild}
 
--- a test that cannot hold is false
-pub refuted : (b : Bool) → (b ≡ true → ⊥) → b ≡ false
-refuted b never = ⊎_elim (λ t. absurd (never t)) (λ f. f) (cases_Bool b)
-
 module _ {E : Type 0} {before : E → E → Bool} (o : Ordered before) where
   pub asym : (a b : E) → before a b ≡ true → before b a ≡ false
-  asym a b h = refuted (before b a) (λ (k : before b a ≡ true). both_ways (before a a) (o.irrefl a) (o.trans a b a h k))
+  asym a b h = false_from_ne_true (before b a) (λ (k : before b a ≡ true). both_ways (before a a) (o.irrefl a) (o.trans a b a h k))
 
   -- "not before" is transitive
   pub not_trans : (a b c : E) → before a b ≡ false → before b c ≡ false → before a c ≡ false
   not_trans a b c h k =
-      refuted (before a c) (λ ac. ⊎_elim
+      false_from_ne_true (before a c) (λ ac. ⊎_elim
       (λ (ba : before b a ≡ true). both_ways (before b c) k (o.trans b a c ba ac))
       (λ (ba : before b a ≡ false). both_ways (before b c) k (subst (λ x. before x c ≡ true) (o.same a b h ba) ac))
       (cases_Bool (before b a)))
 
   -- what is not before c is not before what comes before c
   pub not_below : (a b c : E) → before a c ≡ false → before b c ≡ true → before a b ≡ false
-  not_below a b c h k = refuted (before a b) (λ ab. both_ways (before a c) h (o.trans a b c ab k))
+  not_below a b c h k = false_from_ne_true (before a b) (λ ab. both_ways (before a c) h (o.trans a b c ab k))
 
   -- a test between two places whose entries are those of two others
   moved : {a b c d : E} → a ≡ c → b ≡ d → before c d ≡ false → before a b ≡ false
@@ -105,10 +101,7 @@ module _ {E : Type 0} {before : E → E → Bool} (o : Ordered before) where
             moved (s.2 k (omega arith) (omega arith)) (ap (λ x. get_or ys x d) cc ∙ s.0) (at_parent xs k c d kc (h.others k kpos kn (omega arith) d));
       }
 
-  -- the way down ends at a leaf, or where the least child does not come before its parent
-  pub heavy_leaf : (xs : List E) (n at : ℕ) → n ≤ 2 * at + 1 → Heavy before xs n at → Heaped before xs n
-  heavy_leaf xs n at leaf h k kpos kn d = h.others k kpos kn (omega arith) d
-
+  -- the way down ends where the least child does not come before its parent
   pub heavy_end : (xs : List E) (n at c : ℕ) → LeastChild before xs n at c
       → ((d : E) → before (get_or xs c d) (get_or xs at d) ≡ false) → Heavy before xs n at → Heaped before xs n
   heavy_end xs n at c m ends h k kpos kn d = ⊎_elim

@@ -47,5 +47,5 @@ module _ {E : Type 0} where
       }
 
   -- by places
-  pub swapped : (v u : Waiting E) (i j : ℕ) → memory u ≡ swap (memory v) i j → i < v.len → j < v.len → (d : E) → Swapped (λ k. get_or (memory v) k d) (λ k. get_or (memory u) k d) i j
-  swapped v u i j after hi hj d = swapped_from_swap (memory v) (memory u) i j d (omega (arith, v.within)) (omega (arith, v.within)) after
+  pub swapped : (v : Waiting E) (after : List E) (i j : ℕ) → after ≡ swap (memory v) i j → i < v.len → j < v.len → (d : E) → Swapped (λ k. get_or (memory v) k d) (λ k. get_or after k d) i j
+  swapped v after i j e hi hj d = swapped_from_swap (memory v) after i j d (omega (arith, v.within)) (omega (arith, v.within)) e

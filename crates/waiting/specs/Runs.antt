@@ -1,30 +1,22 @@
 -- Lists of pushes and pops, and the service that they are.
-use Rattle.std.specs.Prelude.{◌≡◌, ℕ, ◌<◌, ◌≤◌, Bool, false, List, [], ◌∷◌, ◌++◌, length, take, drop, Some, None, Ok, Err, Option, Result}
+use Rattle.std.specs.Prelude.{◌≡◌, ℕ, ◌<◌, ◌≤◌, Bool, false, List, [], ◌∷◌, ◌++◌, length, take, drop, Some, None, Ok, Err, Result}
 use Rattle.faults.specs.declared.refusal.Refusal.{Refusal}
-use Rattle.faults.specs.declared.refusal.Refusal.TheVariants.{MemoryTooShort}
+use Rattle.faults.specs.declared.refusal.Refusal.TheVariants.{Full, MemoryTooShort}
 use Rattle.std.specs.List.{AllByRecursion}
 use Rattle.std.specs.List.Sorted.{IsPermutation}
 use Rattle.waiting.specs.Waiting.{memory, queued, PushAnswer, PopAnswer}
 use Rattle.waiting.specs.declared.calls.Answer.{Answer}
-use Rattle.waiting.specs.declared.calls.Answer.TheVariants.{Taken, Refused, Lowest, Nothing}
+use Rattle.waiting.specs.declared.calls.Answer.TheVariants.{Pushed, Popped}
 use Rattle.waiting.specs.declared.calls.Call.{Call}
 use Rattle.waiting.specs.declared.calls.Call.TheVariants.{Push, Pop}
 use Rattle.waiting.specs.declared.list.Waiting.{Waiting}
 
--- what `push` told by its result
-abbrev pub push_told : {E : Type 0} → Result (Unit {0}) Refusal → Answer E
-push_told (Ok _) = Taken
-push_told (Err _) = Refused
-
--- what `pop` told by its result
-abbrev pub pop_told : {E : Type 0} → Option E → Answer E
-pop_told (Some e) = Lowest e
-pop_told None = Nothing
-
 -- one call: its contract, from the list before it to the list after it
 abbrev pub Step : {E : Type 0} → (E → E → Bool) → Waiting E → Call E → Answer E → Waiting E → Type 0
-Step before w (Push e) a w' = (r : Result (Unit {0}) Refusal) × (push_told r ≡ a) × PushAnswer before e w w' r
-Step {E} before w Pop a w' = (r : Option E) × (pop_told r ≡ a) × PopAnswer before w w' r
+Step before w (Push e) (Pushed r) w' = PushAnswer before e w w' r
+Step before w (Push e) (Popped o) w' = ⊥
+Step before w Pop (Pushed r) w' = ⊥
+Step before w Pop (Popped o) w' = PopAnswer before w w' o
 
 -- a list of calls, each on the list that the call before it left
 abbrev pub Runs : {E : Type 0} → (E → E → Bool) → Waiting E → List (Call E) → List (Answer E) → Waiting E → Type 0
@@ -55,14 +47,12 @@ ServeAnswer before calls w answers w' answers' (Err x) = TooShort x calls w answ
 -- One call of the service: a bag of entries, in no order, with room for so many.
 -- A pop takes an entry of the bag before which no entry of the bag comes.
 abbrev pub ServesOne : {E : Type 0} → (E → E → Bool) → ℕ → List E → Call E → Answer E → List E → Type 0
-ServesOne before capacity bag (Push e) Taken bag' = (length bag < capacity) × (bag' ≡ e ∷ bag)
-ServesOne before capacity bag (Push e) Refused bag' = (length bag ≡ capacity) × (bag' ≡ bag)
-ServesOne before capacity bag (Push e) (Lowest x) bag' = ⊥
-ServesOne before capacity bag (Push e) Nothing bag' = ⊥
-ServesOne before capacity bag Pop Taken bag' = ⊥
-ServesOne before capacity bag Pop Refused bag' = ⊥
-ServesOne before capacity bag Pop (Lowest e) bag' = IsPermutation bag (e ∷ bag') × AllByRecursion (λ x. before x e ≡ false) bag
-ServesOne before capacity bag Pop Nothing bag' = (bag ≡ []) × (bag' ≡ bag)
+ServesOne before capacity bag (Push e) (Pushed (Ok _)) bag' = (length bag < capacity) × (bag' ≡ e ∷ bag)
+ServesOne before capacity bag (Push e) (Pushed (Err x)) bag' = (x ≡ Full) × (length bag ≡ capacity) × (bag' ≡ bag)
+ServesOne before capacity bag (Push e) (Popped o) bag' = ⊥
+ServesOne before capacity bag Pop (Pushed r) bag' = ⊥
+ServesOne before capacity bag Pop (Popped (Some e)) bag' = IsPermutation bag (e ∷ bag') × AllByRecursion (λ x. before x e ≡ false) bag
+ServesOne before capacity bag Pop (Popped None) bag' = (bag ≡ []) × (bag' ≡ bag)
 
 -- a list of calls, each on the bag that the call before it left
 abbrev pub Serves : {E : Type 0} → (E → E → Bool) → ℕ → List E → List (Call E) → List (Answer E) → List E → Type 0
@@ -76,19 +66,17 @@ Serves {E} before capacity bag (c ∷ calls) (a ∷ answers) bag' =
 abbrev pub went_in : {E : Type 0} → List (Call E) → List (Answer E) → List E
 went_in [] answers = []
 went_in (c ∷ calls) [] = []
-went_in (Push e ∷ calls) (Taken ∷ answers) = e ∷ went_in calls answers
-went_in (Push e ∷ calls) (Refused ∷ answers) = went_in calls answers
-went_in (Push e ∷ calls) (Lowest x ∷ answers) = went_in calls answers
-went_in (Push e ∷ calls) (Nothing ∷ answers) = went_in calls answers
+went_in (Push e ∷ calls) (Pushed (Ok _) ∷ answers) = e ∷ went_in calls answers
+went_in (Push e ∷ calls) (Pushed (Err x) ∷ answers) = went_in calls answers
+went_in (Push e ∷ calls) (Popped o ∷ answers) = went_in calls answers
 went_in (Pop ∷ calls) (a ∷ answers) = went_in calls answers
 
 -- the entries that pops answered
 abbrev pub came_out : {E : Type 0} → List (Answer E) → List E
 came_out [] = []
-came_out (Taken ∷ answers) = came_out answers
-came_out (Refused ∷ answers) = came_out answers
-came_out (Lowest e ∷ answers) = e ∷ came_out answers
-came_out (Nothing ∷ answers) = came_out answers
+came_out (Pushed r ∷ answers) = came_out answers
+came_out (Popped (Some e) ∷ answers) = e ∷ came_out answers
+came_out (Popped None ∷ answers) = came_out answers
 
 -- the calls with these answers, that left w', are the service on an empty bag
 pub record Served {E : Type 0} (before : E → E → Bool) (capacity : ℕ) (calls : List (Call E)) (answers : List (Answer E)) (w' : Waiting E) : Type 0 where

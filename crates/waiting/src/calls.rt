@@ -1,18 +1,17 @@
 // A push or a pop, and what it answers, as data.
-#[derive(Clone, Copy)]
+use faults::Refusal;
+
+// kept: shaped as an `Option<E>`, where `None` would not say that a call pops.
+#[derive(Clone, Copy, Debug, PartialEq, Eq)]
 pub enum Call<E> {
     Push(E),
     Pop,
 }
 
-#[derive(Clone, Copy)]
+#[derive(Clone, Copy, Debug, PartialEq, Eq)]
 pub enum Answer<E> {
-    // The entry was taken.
-    Taken,
-    // No place was left.
-    Refused,
-    // This entry came out.
-    Lowest(E),
-    // None waited.
-    Nothing,
+    // Whether there was a place for the entry.
+    Pushed(Result<(), Refusal>),
+    // The entry that came out, where one waited.
+    Popped(Option<E>),
 }

@@ -12,6 +12,8 @@ pub use calls::{Answer, Call};
 pub use list::Waiting;
 
 // Values with a total order.
+// kept: the order is a member that contracts name, and for entries it is made of the test that a
+// cost rule has; `Ord` would ask for four impls, and for a cost that is `Ord` itself.
 pub trait Ranked: Copy {
     ghost before: { Self → Self → Bool };
 
@@ -24,6 +26,7 @@ pub trait Ranked: Copy {
 
 // Over every list of pushes and pops on an empty list, each pop answers the lowest of the
 // entries that wait, and no entry is lost or made up.
+#[tactic(auto, using(crate::proofs::RunFacts::lowest_first_lem))]
 pub fn lowest_first<E: Ranked>()
     ensures { LowestFirst E.before }
 {}

@@ -4,6 +4,7 @@ mod heap;
 mod serve;
 
 // The entries that wait are the first `len` of the handed memory.
+// kept: the memory is the caller's (no heap), so no `Vec` or `BinaryHeap` can hold them.
 #[derive(Drop)]
 pub struct Waiting<'a, E> {
     entries: &'a mut [E],

@@ -4,16 +4,6 @@ use faults::Refusal;
 use std::process::Abort;
 use waiting::{Answer, Call, Waiting};
 
-// The answer's kind, with the cost and the router of an entry that came out.
-fn parts(answer: Answer<Entry<u32>>) -> (u8, u32, usize) {
-    match answer {
-        Answer::Taken => (0, 0, 0),
-        Answer::Refused => (1, 0, 0),
-        Answer::Lowest(e) => (2, e.cost, e.router),
-        Answer::Nothing => (3, 0, 0),
-    }
-}
-
 // Makes the calls on a new list of two places, which then has so many entries.
 fn run(
     rt: &impl Abort,
@@ -30,7 +20,7 @@ fn run(
 
 #[test]
 fn calls_in_turn(rt: HostRuntime) {
-    let mut answers = [Answer::Nothing; 5];
+    let mut answers = [Answer::Popped(None); 5];
     run(
         &rt,
         &[
@@ -43,11 +33,11 @@ fn calls_in_turn(rt: HostRuntime) {
         Ok(()),
         1,
     );
-    assert_eq!(rt; parts(answers[0]), (0, 0, 0));
-    assert_eq!(rt; parts(answers[1]), (0, 0, 0));
-    assert_eq!(rt; parts(answers[2]), (1, 0, 0));
-    assert_eq!(rt; parts(answers[3]), (2, 3, 7));
-    assert_eq!(rt; parts(answers[4]), (3, 0, 0));
+    assert_eq!(rt; answers[0], Answer::Pushed(Ok(())));
+    assert_eq!(rt; answers[1], Answer::Pushed(Ok(())));
+    assert_eq!(rt; answers[2], Answer::Pushed(Err(Refusal::Full)));
+    assert_eq!(rt; answers[3], Answer::Popped(Some(at(3, 7))));
+    assert_eq!(rt; answers[4], Answer::Popped(None));
 }
 
 #[test]
@@ -56,7 +46,7 @@ fn too_few_answers(rt: HostRuntime) {
     run(
         &rt,
         &calls,
-        &mut [Answer::Nothing; 1],
+        &mut [Answer::Popped(None); 1],
         Err(Refusal::MemoryTooShort),
         0,
     );

@@ -1,7 +1,6 @@
 use entries::Entry;
 use faults::Refusal;
 use std::process::Abort;
-use std::test::Fail;
 use waiting::Waiting;
 
 // A call on the list, with what it answers.
@@ -21,56 +20,27 @@ pub(crate) fn at(cost: u32, router: usize) -> Entry<u32> {
     Entry { cost, router }
 }
 
-fn gives(rt: &impl Abort, next: Option<Entry<u32>>, cost: u32, router: usize) -> Result<(), Fail> {
-    match next {
-        Some(e) => {
-            assert_eq!(rt; (e.cost, e.router), (cost, router));
-            Ok(())
-        },
-        None => Err(Fail::new("no entry waits")),
-    }
-}
-
 // Makes one call.
-pub(crate) fn make(
-    rt: &impl Abort,
-    list: &mut Waiting<Entry<u32>>,
-    step: Step,
-) -> Result<(), Fail> {
+pub(crate) fn make(rt: &impl Abort, list: &mut Waiting<Entry<u32>>, step: Step) {
     match step {
-        Step::Takes(cost, router) => {
-            assert_eq!(rt; list.push(at(cost, router)), Ok(()));
-            Ok(())
-        },
-        Step::Full => {
-            assert_eq!(rt; list.push(at(0, 0)), Err(Refusal::Full));
-            Ok(())
-        },
-        Step::Gives(cost, router) => gives(rt, list.pop(), cost, router),
-        Step::Empty => {
-            assert!(rt; list.pop().is_none());
-            Ok(())
-        },
+        Step::Takes(cost, router) => assert_eq!(rt; list.push(at(cost, router)), Ok(())),
+        Step::Full => assert_eq!(rt; list.push(at(0, 0)), Err(Refusal::Full)),
+        Step::Gives(cost, router) => assert_eq!(rt; list.pop(), Some(at(cost, router))),
+        Step::Empty => assert_eq!(rt; list.pop(), None),
     }
 }
 
 // Makes the calls on a new list, which then has so many entries.
-pub(crate) fn run(
-    rt: &impl Abort,
-    memory: &mut [Entry<u32>],
-    steps: &[Step],
-    len: usize,
-) -> Result<(), Fail> {
+pub(crate) fn run(rt: &impl Abort, memory: &mut [Entry<u32>], steps: &[Step], len: usize) {
     let mut list = Waiting::new(memory);
     for s in steps {
-        make(rt, &mut list, *s)?;
+        make(rt, &mut list, *s);
     }
     assert_eq!(rt; list.len(), len);
-    Ok(())
 }
 
 #[test]
-fn sums_come_out_sorted(rt: HostRuntime) -> Result<(), Fail> {
+fn sums_come_out_sorted(rt: HostRuntime) {
     run(
         &rt,
         &mut [at(9, 9); 8],
@@ -90,11 +60,11 @@ fn sums_come_out_sorted(rt: HostRuntime) -> Result<(), Fail> {
             Step::Empty,
         ],
         0,
-    )
+    );
 }
 
 #[test]
-fn pushes_between_pops(rt: HostRuntime) -> Result<(), Fail> {
+fn pushes_between_pops(rt: HostRuntime) {
     run(
         &rt,
         &mut [at(0, 0); 4],
@@ -112,12 +82,12 @@ fn pushes_between_pops(rt: HostRuntime) -> Result<(), Fail> {
             Step::Gives(2, 7),
         ],
         2,
-    )
+    );
 }
 
 // Equal entries come out as often as they were pushed.
 #[test]
-fn equal_entries(rt: HostRuntime) -> Result<(), Fail> {
+fn equal_entries(rt: HostRuntime) {
     run(
         &rt,
         &mut [at(0, 0); 4],
@@ -134,5 +104,5 @@ fn equal_entries(rt: HostRuntime) -> Result<(), Fail> {
             Step::Empty,
         ],
         0,
-    )
+    );
 }

@@ -1,4 +1,5 @@
 use Rattle.std.proofs.Common.{length, sym, refl, ◌∙◌, arith}
+use Rattle.std.proofs.lemmas.List.{set-get_or}
 use Rattle.page_settling.proofs.Fills.{filled_first, filled_write, filled_keep, filled_all}
 use Rattle.page_settling.proofs.Rests.{held_at, held_not, held_past}
 use Rattle.page_settling.proofs.clear_others.Goals as goal
@@ -14,7 +15,7 @@ loop-d-preserved g c =
     elim c.if-not-has.branch [
       | then-not-has w ↦ filled_write c.loop-d.invariant _ w.zero.result w.row-is c.loop-d-test.true
           (w.zero.ensures ∙ sym (held_not rule c.args.row.now c.args.reached at (sym w.if-not-has.ensures)))
-      | else-not-has w ↦ filled_keep c.loop-d.invariant _ w.row-is (sym (held_at rule c.args.row.now c.args.reached at (sym w.if-not-has.ensures)))
+      | else-not-has w ↦ filled_keep c.loop-d.invariant _ (w.row-is ∙ set-get_or _ _ _) (sym (held_at rule c.args.row.now c.args.reached at (sym w.if-not-has.ensures)))
     ]
 
 pub returns : goal.returns

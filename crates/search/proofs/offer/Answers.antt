@@ -1,7 +1,8 @@
 use Rattle.std.proofs.Common.{◌+◌, set, sym, ap, ◌∙◌, subst, arith}
 use Rattle.std.proofs.lemmas.List.{get_or_read}
 use Rattle.entries.specs.Entry.{entry_before}
-use Rattle.search.specs.Steps.{entry, costs_in, with_offer, Step}
+use Rattle.squares.specs.Known.{costs_in, with_offer}
+use Rattle.search.specs.Steps.{entry, Step}
 use Rattle.search.proofs.Offers.{with_room, known_cost, no_cost, not_offered, not_taken, taken}
 use Rattle.search.proofs.offer.Goals as goal
 use Rattle.search.proofs.offer.Goals.{else-has-via-then-has+else-not-lower, else-has-via-else-has}

@@ -1,57 +1,62 @@
-use Rattle.std.proofs.Common.{◌-◌, get_or, None, sym, refl, ap, ◌∙◌, arith}
-use Rattle.search.proofs.Squares.{matrix_sound, can_join, link_cost}
-use Rattle.search.specs.Matrix.{matrix}
-use Rattle.search.specs.Steps.{costs_in}
+use Rattle.std.proofs.Common.{◌≡◌, get_or, None, sym, refl, ap, ◌∙◌, subst, arith}
+use Rattle.squares.proofs.Joins.{can_join}
+use Rattle.squares.specs.Meaning.{network_of}
+use Rattle.squares.specs.Known.{costs_in}
 use Rattle.settling.specs.Rows.{to_father}
-use Rattle.settling.proofs.Climbs.{climbing_first, climbing_short, climbing_more, climbing_all}
+use Rattle.settling.proofs.Climbs.{ClimbingOn, climbing_first, climbing_short, last_inside, climbing_more, climbing_all}
 use Rattle.settling.proofs.Orders.{at_table}
 use Rattle.settling.proofs.Rows.{father_inside}
 use Rattle.settling.proofs.climb.Goals as goal
 
-pub loop-i-init : goal.loop-i-init
-loop-i-init g c =
+pub loop-router-init : goal.loop-router-init
+loop-router-init g c =
     let rule = g.C.Cost.costs in
-    let N = matrix rule c.args.count c.args.links.now in
-    let sound = matrix_sound rule c.args.links.now c.args.count g.met.C.Cost.lawful c.requires.square in
-    (refl, climbing_first N sound c.args.root c.args.neighbour c.args.found.order c.args.found.many (costs_in rule c.args.row.now c.args.reached) c.requires.starts)
+    let N = network_of rule g.L.LinkCosts c.args.links.now in
+    let sound = g.met.L.LinkCosts.sound c.args.links.now in
+    let order = c.args.tree.now.found.order.items in
+    let f = costs_in rule c.args.row.now c.args.reached in
+    let is : order ≡ c.into_iter-router-iterator.result.iter.rest.now = cc in
+    (refl, subst (ClimbingOn N c.args.tree.now.root c.args.neighbour order f) is (climbing_first N sound c.args.tree.now.root c.args.neighbour order f c.requires.starts))
 
 pub climb_from-reached-requires : goal.climb_from-reached-requires
 climb_from-reached-requires g c =
     let rule = g.C.Cost.costs in
+    let N = network_of rule g.L.LinkCosts c.args.links.now in
+    let sound = g.met.L.LinkCosts.sound c.args.links.now in
     let laws = g.met.C.Cost.lawful in
-    let N = matrix rule c.args.count c.args.links.now in
-    let sound = matrix_sound rule c.args.links.now c.args.count laws c.requires.square in
-    let line = c.requires.tree.1 in
-    let d = get_or c.args.found.order (c.args.found.many - 1 - c.loop-i.i) 0 in
+    let line = c.requires.tree.order in
+    let on = c.loop-router.invariant.1 in
+    let d = c.in-Some.field-0.now in
+    let left = c.next.new.self.iter.rest.now in
     record {
-      square = c.requires.square;
-      inside = ((line.reached (c.args.found.many - 1 - c.loop-i.i) (omega (arith, c.loop-i-test.true))).0, omega (arith, c.requires.places, c.loop-i.invariant.0));
+      inside = (last_inside N sound c.args.tree.now.root c.args.neighbour line on left d c.in-Some.ensures.steps, omega (arith, c.requires.places, c.loop-router.invariant.0));
       father = λ p e.
-          let is = sym (at_table N sound c.args.root d) ∙ ap (λ t. get_or t d None) (sym c.requires.tree.0) ∙ e in (
-            father_inside N sound c.args.root c.args.neighbour d p is,
-            λ a l ea el. can_join rule laws a l (climbing_short N sound c.args.root c.args.neighbour line c.loop-i.invariant.1 d a ea)
-                (link_cost rule c.args.links.now c.args.count laws c.requires.square d p l el),
+          let is = sym (at_table N sound c.args.tree.now.root d) ∙ ap (λ t. get_or t d None) (sym c.requires.tree.father) ∙ e in (
+            father_inside N sound c.args.tree.now.root c.args.neighbour d p is,
+            λ a l ea el. can_join rule laws a l (climbing_short N sound c.args.tree.now.root c.args.neighbour line on d a ea)
+                (sound.costs d p l el),
           );
     }
 
-pub loop-i-preserved : goal.loop-i-preserved
-loop-i-preserved g c =
+pub loop-router-preserved : goal.loop-router-preserved
+loop-router-preserved g c =
     let rule = g.C.Cost.costs in
-    let N = matrix rule c.args.count c.args.links.now in
-    let sound = matrix_sound rule c.args.links.now c.args.count g.met.C.Cost.lawful c.requires.square in
-    let d = get_or c.args.found.order (c.args.found.many - 1 - c.loop-i.i) 0 in
-    let f = costs_in rule c.loop-i.row c.loop-i.reached in (
-      c.climb_from-reached.ensures.size ∙ c.loop-i.invariant.0,
-      climbing_more N sound c.args.root c.args.neighbour c.requires.tree.1 c.loop-i.invariant.1 c.loop-i-test.true
-          (λ x. c.climb_from-reached.ensures.costs x ∙ ap (λ o. to_father N c.args.root o f d x) (ap (λ t. get_or t d None) c.requires.tree.0 ∙ at_table N sound c.args.root d)),
+    let N = network_of rule g.L.LinkCosts c.args.links.now in
+    let sound = g.met.L.LinkCosts.sound c.args.links.now in
+    let d = c.in-Some.field-0.now in
+    let left = c.next.new.self.iter.rest.now in
+    let f = costs_in rule c.loop-router.row c.loop-router.reached in (
+      c.climb_from-reached.ensures.size ∙ c.loop-router.invariant.0,
+      climbing_more N sound c.args.tree.now.root c.args.neighbour c.requires.tree.order c.loop-router.invariant.1 left d c.in-Some.ensures.steps
+          (λ x. c.climb_from-reached.ensures.costs x ∙ ap (λ o. to_father N c.args.tree.now.root o f d x) (ap (λ t. get_or t d None) c.requires.tree.father ∙ at_table N sound c.args.tree.now.root d)),
     )
 
 pub returns : goal.returns
 returns g c =
     let rule = g.C.Cost.costs in
-    let N = matrix rule c.args.count c.args.links.now in
-    let sound = matrix_sound rule c.args.links.now c.args.count g.met.C.Cost.lawful c.requires.square in
+    let N = network_of rule g.L.LinkCosts c.args.links.now in
+    let sound = g.met.L.LinkCosts.sound c.args.links.now in
     record {
-      costs = climbing_all N sound c.args.root c.args.neighbour c.requires.tree.1 c.loop-i.invariant.1 (omega arith);
-      size = c.loop-i.invariant.0;
+      costs = climbing_all N sound c.args.tree.now.root c.args.neighbour c.requires.tree.order c.loop-router.invariant.1 c.in-None.ensures.steps.0;
+      size = c.loop-router.invariant.0;
     }

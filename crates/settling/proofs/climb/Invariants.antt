@@ -1,10 +1,10 @@
 use Rattle.std.proofs.Common.{◌≡◌, length}
-use Rattle.search.specs.Matrix.{matrix}
-use Rattle.search.specs.Steps.{costs_in}
+use Rattle.squares.specs.Meaning.{network_of}
+use Rattle.squares.specs.Known.{costs_in}
 use Rattle.settling.proofs.Climbs.{ClimbingOn}
 use Rattle.settling.proofs.climb.Given as goal
 
-abbrev pub invariant-loop-i : goal.invariant-loop-i
-invariant-loop-i g l =
+abbrev pub invariant-loop-router : goal.invariant-loop-router
+invariant-loop-router g l =
     (length l.row ≡ length l.initial.row)
-    × ClimbingOn (matrix g.C.Cost.costs l.count l.links) l.root l.neighbour l.found.order l.found.many (costs_in g.C.Cost.costs l.row l.reached) l.i
+    × ClimbingOn (network_of g.C.Cost.costs g.L.LinkCosts l.links) l.tree.root l.neighbour l.tree.found.order.items (costs_in g.C.Cost.costs l.row l.reached) l.router-iterator.iter.rest.now

@@ -1,57 +1,73 @@
-use Rattle.std.proofs.Common.{get_or, None, sym, refl, ap, ◌∙◌, arith}
-use Rattle.search.proofs.Squares.{matrix_sound, can_join, link_cost}
-use Rattle.search.specs.Matrix.{matrix}
-use Rattle.search.specs.Steps.{costs_in, with_offer}
+use Rattle.std.proofs.Common.{◌≡◌, ℕ, eqb, ◌≢◌, get_or, None, sym, refl, ap, ◌∙◌, subst, arith}
+use Rattle.squares.proofs.Joins.{can_join}
+use Rattle.squares.specs.Meaning.{network_of}
+use Rattle.squares.specs.Found.{NearestFirst}
+use Rattle.squares.specs.Known.{costs_in, with_offer}
+use Rattle.std.proofs.lemmas.Bool.{cond-false, ne_eqb}
 use Rattle.settling.specs.Rows.{by_father}
 use Rattle.settling.proofs.Orders.{at_table}
 use Rattle.settling.proofs.Rows.{descended_first, descended_more, descended_all, father_done, father_inside, rest_short}
 use Rattle.settling.proofs.descend.Goals as goal
 
-pub loop-i-init : goal.loop-i-init
-loop-i-init g c =
+pub loop-router-init : goal.loop-router-init
+loop-router-init g c =
     let rule = g.C.Cost.costs in
-    let N = matrix rule c.args.count c.args.links.now in
-    let sound = matrix_sound rule c.args.links.now c.args.count g.met.C.Cost.lawful c.requires.square in
-    (refl, descended_first N sound c.args.root c.args.neighbour c.args.found.order (costs_in rule c.args.row.now c.args.reached) c.requires.climbs)
+    let N = network_of rule g.L.LinkCosts c.args.links.now in
+    let sound = g.met.L.LinkCosts.sound c.args.links.now in
+    (refl, descended_first N sound c.args.tree.now.root c.args.neighbour c.as_slice-router-items.result.now (costs_in rule c.args.row.now c.args.reached) c.requires.climbs, λ d _. refl)
 
-pub descend_to-reached-requires : goal.descend_to-reached-requires
-descend_to-reached-requires g c =
+pub way_down-way-requires : goal.way_down-way-requires
+way_down-way-requires g c =
     let rule = g.C.Cost.costs in
     let laws = g.met.C.Cost.lawful in
-    let N = matrix rule c.args.count c.args.links.now in
-    let sound = matrix_sound rule c.args.links.now c.args.count laws c.requires.square in
-    let line = c.requires.tree.1 in
-    let d = get_or c.args.found.order c.loop-i.i 0 in
+    let N = network_of rule g.L.LinkCosts c.args.links.now in
+    let sound = g.met.L.LinkCosts.sound c.args.links.now in
+    let line = subst (NearestFirst N c.args.tree.now.root) (sym c.as_slice-router-items.ensures.value) c.requires.tree.order in
+    let d = get_or c.as_slice-router-items.result.now c.loop-router.router-index 0 in
     record {
-      square = c.requires.square;
-      inside = ((line.reached c.loop-i.i c.loop-i-test.true).0, omega (arith, c.requires.places, c.loop-i.invariant.0));
+      inside = ((line.reached c.loop-router.router-index (omega (arith, c.loop-router-test.true))).0, omega (arith, c.requires.places, c.loop-router.invariant.0));
       father = λ p e.
-          let is = sym (at_table N sound c.args.root d) ∙ ap (λ t. get_or t d None) (sym c.requires.tree.0) ∙ e in
-          let there = father_done N sound c.args.root c.args.neighbour line c.loop-i.invariant.1 c.loop-i-test.true p is in (
-            father_inside N sound c.args.root c.args.neighbour d p is,
-            λ a l ea el. can_join rule laws a l (rest_short N sound c.args.root c.args.neighbour p a (sym there ∙ ea))
-                (link_cost rule c.args.links.now c.args.count laws c.requires.square p d l el),
+          let is = sym (at_table N sound c.args.tree.now.root d) ∙ ap (λ t. get_or t d None) (sym c.requires.tree.father) ∙ e in
+          let there = father_done N sound c.args.tree.now.root c.args.neighbour line c.loop-router.invariant.1 (omega (arith, c.loop-router-test.true)) p is in (
+            father_inside N sound c.args.tree.now.root c.args.neighbour d p is,
+            λ a l ea el. can_join rule laws a l (rest_short N sound c.args.tree.now.root c.args.neighbour p a (sym there ∙ ea))
+                (sound.costs p d l el),
           );
     }
 
-pub loop-i-preserved : goal.loop-i-preserved
-loop-i-preserved g c =
+pub take_offer-reached-requires : goal.take_offer-reached-requires
+take_offer-reached-requires g c =
+    let N = network_of g.C.Cost.costs g.L.LinkCosts c.args.links.now in
+    let sound = g.met.L.LinkCosts.sound c.args.links.now in
+    let line = subst (NearestFirst N c.args.tree.now.root) (sym c.as_slice-router-items.ensures.value) c.requires.tree.order in
+    let inside = (line.reached c.loop-router.router-index (omega (arith, c.loop-router-test.true))).0 in
+    (omega (arith, inside, c.requires.places, c.loop-router.invariant.0), omega (arith, inside, sound.few))
+
+pub loop-router-preserved : goal.loop-router-preserved
+loop-router-preserved g c =
     let rule = g.C.Cost.costs in
-    let N = matrix rule c.args.count c.args.links.now in
-    let sound = matrix_sound rule c.args.links.now c.args.count g.met.C.Cost.lawful c.requires.square in
-    let d = get_or c.args.found.order c.loop-i.i 0 in
-    let f = costs_in rule c.loop-i.row c.loop-i.reached in (
-      c.descend_to-reached.ensures.size ∙ c.loop-i.invariant.0,
-      descended_more N sound c.args.root c.args.neighbour c.requires.tree.1 c.loop-i.invariant.1 c.loop-i-test.true
-          (λ x. c.descend_to-reached.ensures.costs x ∙ ap (λ o. with_offer rule f d (by_father N o f d) x) (ap (λ t. get_or t d None) c.requires.tree.0 ∙ at_table N sound c.args.root d)),
+    let N = network_of rule g.L.LinkCosts c.args.links.now in
+    let sound = g.met.L.LinkCosts.sound c.args.links.now in
+    let line = subst (NearestFirst N c.args.tree.now.root) (sym c.as_slice-router-items.ensures.value) c.requires.tree.order in
+    let d = get_or c.as_slice-router-items.result.now c.loop-router.router-index 0 in
+    let f = costs_in rule c.loop-router.row c.loop-router.reached in
+    let given : (x : ℕ) → costs_in rule c.take_offer-reached.new.row c.take_offer-reached.result x ≡ with_offer rule f d (by_father N (get_or c.args.tree.now.father d None) f d) x = λ x. c.take_offer-reached.ensures.costs x ∙ ap (λ o. with_offer rule f d o x) c.way_down-way.ensures in (
+      c.take_offer-reached.ensures.size ∙ c.loop-router.invariant.0,
+      descended_more N sound c.args.tree.now.root c.args.neighbour line c.loop-router.invariant.1 (omega (arith, c.loop-router-test.true))
+          (λ x. given x ∙ ap (λ o. with_offer rule f d (by_father N o f d) x) (ap (λ t. get_or t d None) c.requires.tree.father ∙ at_table N sound c.args.tree.now.root d)),
+      λ x past.
+          let ne : x ≢ d = omega (arith, (line.reached c.loop-router.router-index (omega (arith, c.loop-router-test.true))).0) in
+          given x ∙ cond-false (eqb x d) _ (f x) (ne_eqb x d ne) ∙ c.loop-router.invariant.2 x past,
     )
 
 pub returns : goal.returns
 returns g c =
     let rule = g.C.Cost.costs in
-    let N = matrix rule c.args.count c.args.links.now in
-    let sound = matrix_sound rule c.args.links.now c.args.count g.met.C.Cost.lawful c.requires.square in
+    let N = network_of rule g.L.LinkCosts c.args.links.now in
+    let sound = g.met.L.LinkCosts.sound c.args.links.now in
+    let line = subst (NearestFirst N c.args.tree.now.root) (sym c.as_slice-router-items.ensures.value) c.requires.tree.order in
     record {
-      costs = descended_all N sound c.args.root c.args.neighbour c.requires.tree.1 c.loop-i.invariant.1 (omega arith);
-      size = c.loop-i.invariant.0;
+      costs = descended_all N sound c.args.tree.now.root c.args.neighbour line c.loop-router.invariant.1 (omega arith);
+      past = c.loop-router.invariant.2;
+      size = c.loop-router.invariant.0;
     }

@@ -1,6 +1,6 @@
 use Rattle.std.proofs.Common.{sym, refl, ap, ◌∙◌}
-use Rattle.std.proofs.lemmas.List.{get_or_read, length-set}
-use Rattle.search.specs.Steps.{costs_in, with_offer}
+use Rattle.std.proofs.lemmas.List.{get_or_read, get_or-set_other, length-set}
+use Rattle.squares.specs.Known.{costs_in, with_offer}
 use Rattle.settling.proofs.Offers.{known_cost, no_cost, not_offered, not_taken, taken}
 use Rattle.settling.proofs.take_offer.Goals as goal
 use Rattle.settling.proofs.take_offer.Goals.{else-has-via-then-has+else-not-lower, else-has-via-else-has}
@@ -11,6 +11,7 @@ returns-in_default g c =
     let f = costs_in rule c.args.row.now c.args.reached in
     record {
       costs = λ d. not_offered rule c.args.row.now c.args.reached c.args.to d ∙ sym (ap (λ o. with_offer rule f c.args.to o d) c.in_default.is);
+      others = λ k _. refl;
       size = refl;
     }
 
@@ -25,6 +26,7 @@ returns-then-not-lower g c =
           not_taken rule row c.args.reached to c.in-Some.cost (sym c.if-has.ensures)
           (ap (rule.lower c.in-Some.cost) (sym (get_or_read row to c.index-row-to.result c.requires.0 c.index-row-to.is rule.zero)) ∙ sym c.if-not-lower.ensures) d
           ∙ sym (ap (λ o. with_offer rule f to o d) c.in-Some.is);
+      others = λ k _. refl;
       size = refl;
     }
 
@@ -46,5 +48,6 @@ returns g c =
             | else-has-via-else-has v ↦ absurd (no_cost rule row reached to a (sym v.if-has.ensures) e)
           ]) d
           ∙ sym (ap (λ o. with_offer rule f to o d) c.in-Some.is);
+      others = λ k ne. get_or-set_other row to k cost rule.zero ne;
       size = length-set row to cost;
     }

@@ -1,15 +1,23 @@
-use Rattle.std.proofs.Common.{get_or, refl, arith}
+use Rattle.std.proofs.Common.{get_or, sym, refl, subst, arith}
+use Rattle.settling.specs.Trees.{FathersFirst}
 use Rattle.settling.proofs.Trees.{all_none, hopped_more, hopped_all}
 use Rattle.settling.proofs.tree_hops.Goals as goal
 
-pub loop-i-init : goal.loop-i-init
-loop-i-init c = record { long = refl; at = λ h s j l. absurd (omega arith); none = λ d n. all_none 32 d }
+pub loop-router-init : goal.loop-router-init
+loop-router-init c = record { long = refl; at = λ h s j l. absurd (omega arith); none = λ d n. all_none 32 d }
 
 pub hop_of-requires : goal.hop_of-requires
-hop_of-requires c = (c.requires.routers c.loop-i.i c.loop-i-test.true, c.requires.bounded (get_or c.args.found.order c.loop-i.i 0))
+hop_of-requires c =
+    let first = subst (FathersFirst c.args.fathers.now c.args.root) (sym c.as_slice-router-items.ensures.value) c.requires in
+    let at = c.loop-router.router-index in
+    (first.routers at (omega (arith, c.loop-router-test.true)), first.bounded (get_or c.as_slice-router-items.result.now at 0))
 
-pub loop-i-preserved : goal.loop-i-preserved
-loop-i-preserved c = hopped_more c.requires c.loop-i.invariant c.loop-i-test.true refl c.hop_of.ensures
+pub loop-router-preserved : goal.loop-router-preserved
+loop-router-preserved c =
+    let first = subst (FathersFirst c.args.fathers.now c.args.root) (sym c.as_slice-router-items.ensures.value) c.requires in
+    hopped_more first c.loop-router.invariant (omega (arith, c.loop-router-test.true)) refl c.hop_of.ensures
 
 pub returns : goal.returns
-returns c = hopped_all c.requires c.loop-i.invariant (omega arith)
+returns c =
+    let first = subst (FathersFirst c.args.fathers.now c.args.root) (sym c.as_slice-router-items.ensures.value) c.requires in
+    hopped_all first c.loop-router.invariant (omega arith)

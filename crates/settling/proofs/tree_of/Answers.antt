@@ -1,7 +1,6 @@
-use Rattle.std.proofs.Common.{sym, subst}
+use Rattle.std.proofs.Common.{sym, refl, subst}
 use Rattle.routes.specs.Tree.{lowest_father, hop}
-use Rattle.search.proofs.Squares.{matrix_sound}
-use Rattle.search.specs.Matrix.{matrix}
+use Rattle.squares.specs.Meaning.{network_of}
 use Rattle.settling.specs.Trees.{Hops, FathersFirst}
 use Rattle.settling.proofs.Orders.{hops_table, fathers_first}
 use Rattle.settling.proofs.tree_of.Goals as goal
@@ -9,18 +8,21 @@ use Rattle.settling.proofs.tree_of.Goals as goal
 pub tree_hops-hop-requires : goal.tree_hops-hop-requires
 tree_hops-hop-requires g c =
     let rule = g.C.Cost.costs in
-    let N = matrix rule c.args.count c.args.links.now in
-    let sound = matrix_sound rule c.args.links.now c.args.count g.met.C.Cost.lawful c.requires.square in
-    subst (λ t. FathersFirst t c.args.root c.args.found.order c.args.found.many) (sym c.fathers-father.ensures)
-    (fathers_first N sound c.args.root c.args.found.order c.args.found.many c.requires.left.order)
+    let N = network_of rule g.L.LinkCosts c.args.links.now in
+    let sound = g.met.L.LinkCosts.sound c.args.links.now in
+    subst (λ t. FathersFirst t c.args.root c.args.found.order.items) (sym c.fathers-father.ensures)
+    (fathers_first N sound c.args.root c.args.found.order.items c.requires.left.order)
 
 pub returns : goal.returns
 returns g c =
     let rule = g.C.Cost.costs in
-    let N = matrix rule c.args.count c.args.links.now in
-    let sound = matrix_sound rule c.args.links.now c.args.count g.met.C.Cost.lawful c.requires.square in
+    let N = network_of rule g.L.LinkCosts c.args.links.now in
+    let sound = g.met.L.LinkCosts.sound c.args.links.now in
+    let is = c.fathers-father.ensures in
     record {
-      father = c.fathers-father.ensures;
-      hop = c.tree_hops-hop.ensures (hop N (lowest_father N) c.args.root)
-          (subst (λ t. Hops t c.args.root (hop N (lowest_father N) c.args.root)) (sym c.fathers-father.ensures) (hops_table N sound c.args.root));
+      root = refl;
+      found = refl;
+      tree = record { father = is; order = c.requires.left.order };
+      hops = c.tree_hops-hop.ensures (hop N (lowest_father N) c.args.root)
+          (subst (λ t. Hops t c.args.root (hop N (lowest_father N) c.args.root)) (sym is) (hops_table N sound c.args.root));
     }

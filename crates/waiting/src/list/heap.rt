@@ -44,7 +44,7 @@ impl<'a, E: Ranked> Waiting<'a, E> {
         }
         let last = self.len - 1;
         let top = self.entries[0];
-        self.swap(0, last);
+        self.entries.swap(0, last);
         self.len = last;
         self.sift_down();
         Some(top)
@@ -61,7 +61,7 @@ impl<'a, E: Ranked> Waiting<'a, E> {
             if !self.is_before(at, parent) {
                 return;
             }
-            self.swap(parent, at);
+            self.entries.swap(parent, at);
             at = parent;
         }
     }
@@ -77,12 +77,13 @@ impl<'a, E: Ranked> Waiting<'a, E> {
             if !self.is_before(child, at) {
                 return;
             }
-            self.swap(at, child);
+            self.entries.swap(at, child);
             at = child;
         }
     }
 
     // The child of `at` before which its other child does not come.
+    #[tactic(auto, using(crate::proofs::Sifts::right_least))]
     fn least_child(&self, at: usize) -> usize
         requires { 2 * at + 1 < self.now.len }
         ensures { LeastChild E.before (memory self.now) self.now.len at result }
@@ -99,25 +100,6 @@ impl<'a, E: Ranked> Waiting<'a, E> {
         requires { (i < self.now.len) × (j < self.now.len) }
         ensures { (d : E) → E.before (slice_index_or (memory self.now) i d) (slice_index_or (memory self.now) j d) ≡ result }
     {
-        compare(self.entries, i, j)
+        self.entries[i].precedes(self.entries[j])
     }
-
-    // By single places: a struct with a ghost field cannot lend its memory on to be changed.
-    fn swap(&mut self, i: usize, j: usize)
-        requires { (i < self.old.len) × (j < self.old.len) }
-        ensures len { self.new.len ≡ self.old.len }
-        ensures after { memory self.new ≡ swap (memory self.old) i j }
-        ensures handed { handed self.new ≡ handed self.old }
-    {
-        let x = self.entries[i];
-        self.entries[i] = self.entries[j];
-        self.entries[j] = x;
-    }
-}
-
-fn compare<E: Ranked>(entries: &[E], i: usize, j: usize) -> bool
-    requires { (i < length entries.now) × (j < length entries.now) }
-    ensures { (d : E) → E.before (slice_index_or entries.now i d) (slice_index_or entries.now j d) ≡ result }
-{
-    entries[i].precedes(entries[j])
 }

@@ -1,5 +1,5 @@
 // Lists of calls, made one after another.
-ghost use Rattle.std.specs.Prelude.{◌≡◌, ◌<◌, length, slice_set};
+ghost use Rattle.std.specs.Prelude.{◌≡◌};
 ghost use Rattle.waiting.specs.Runs.{Step, ServeAnswer};
 ghost use Rattle.waiting.specs.Waiting.{handed};
 
@@ -15,14 +15,8 @@ impl<'a, E: Ranked> Waiting<'a, E> {
         ensures handed { handed self.new ≡ handed self.old }
     {
         match call {
-            Call::Push(e) => match self.push(e) {
-                Ok(_) => Answer::Taken,
-                Err(_) => Answer::Refused,
-            },
-            Call::Pop => match self.pop() {
-                Some(e) => Answer::Lowest(e),
-                None => Answer::Nothing,
-            },
+            Call::Push(e) => Answer::Pushed(self.push(e)),
+            Call::Pop => Answer::Popped(self.pop()),
         }
     }
 
@@ -35,18 +29,11 @@ impl<'a, E: Ranked> Waiting<'a, E> {
         if answers.len() < calls.len() {
             return Err(Refusal::MemoryTooShort);
         }
-        for i in 0..calls.len() {
-            let answer = self.serve_one(calls[i]);
-            put(answers, i, answer);
+        // kept: after `calls.iter().zip(answers.iter_mut())` a proof knows how many answers there
+        // are, and not which: so each is written at its index.
+        for (i, call) in calls.iter().enumerate() {
+            answers[i] = self.serve_one(*call);
         }
         Ok(())
     }
-}
-
-// Writes one place. It takes any type: at answers, the search does not find that the place's offset fits.
-fn put<A: Copy>(places: &mut [A], i: usize, a: A)
-    requires { i < length places.old }
-    ensures { places.new ≡ slice_set places.old i a }
-{
-    places[i] = a;
 }

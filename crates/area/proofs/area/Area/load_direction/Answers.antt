@@ -1,14 +1,13 @@
-use Rattle.std.proofs.Common.{Err, refl, ap, ◌∙◌}
-use Rattle.tables.specs.Meaning.{means}
-use Rattle.area.specs.Areas.{put_fault}
-use Rattle.area.proofs.Loading.{fault_told}
+use Rattle.std.proofs.Common.{◌≡◌, Some, None, Option, rules}
+use Rattle.faults.specs.Calls.{done}
+use Rattle.faults.specs.declared.fault.Fault.{Fault}
+use Rattle.area.specs.Loads.{fault_on}
 use Rattle.area.proofs.area.Area.load_direction.Goals as goal
 
-pub returns-in-Err : goal.returns-in-Err
-returns-in-Err g c =
-    let d = c.args.d in
-    let put = c.in-Err.ensures.area in
-    record {
-      answer = ap Err c.on_line.ensures ∙ fault_told c.in-Err.fault d.line (put_fault g.C.Cost.costs (means g.T.LinkTable c.args.self.now.table.below) d.from d.to d.number) put.answer;
-      area = record { answer = refl; table = put.table; pages = put.pages };
-    }
+-- the fault of the put, whichever it is, is told on its line
+pub returns-clause-answer : goal.returns-clause-answer
+returns-clause-answer g c = on _ c.put.ensures.area.answer
+  where
+    on : (f : Option Fault) → c.put.result ≡ done f → c.map_err.result ≡ done (fault_on c.args.d.line f)
+    on None e = search rules
+    on (Some f) e = search rules

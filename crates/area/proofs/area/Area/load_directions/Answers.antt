@@ -3,11 +3,8 @@ use Rattle.std.proofs.lemmas.Result.{err_from_is_err_and}
 use Rattle.directions.proofs.FileLaws.{direction_less}
 use Rattle.linkfile.specs.Reading.{stands, left}
 use Rattle.area.specs.Meaning.{area_of}
-use Rattle.area.proofs.Loading.{loading_begins, goes_on, ends_well, ends_ill, ends_refused}
+use Rattle.area.proofs.Loading.{goes_on, ends_well, ends_ill, ends_refused}
 use Rattle.area.proofs.area.Area.load_directions.Goals as goal
-
-pub loop-direction-init : goal.loop-direction-init
-loop-direction-init g c = loading_begins g.C.Cost.costs (area_of g.T.LinkTable c.args.self.now) (stands c.args.reader.now)
 
 pub returns-in_err-direction : goal.returns-in_err-direction
 returns-in_err-direction g c =

@@ -1,18 +1,8 @@
-use Rattle.std.proofs.Common.{◌+◌, ◌*◌, set, refl, ap, arith}
-use Rattle.grid.proofs.GridLaws.{place, grid_cut}
+use Rattle.std.proofs.Common.{arith}
+use Rattle.grid.proofs.GridLaws.{grid_cut}
 use Rattle.grid.proofs.grid.GridLinkTable.cut.Goals as goal
 
-pub bounds-self-from : goal.bounds-self-from
-bounds-self-from c = place c.args.self.now.cells.now c.args.self.now.count c.count-n.result c.args.from c.args.to c.count-n.ensures.value (omega arith) (omega arith) (omega arith)
-
-pub bounds-self-from-2 : goal.bounds-self-from-2
-bounds-self-from-2 c = place c.args.self.now.cells.now c.args.self.now.count c.count-n.result c.args.from c.args.to c.count-n.ensures.value (omega arith) (omega arith) (omega arith)
-
-pub returns : goal.returns
-returns c =
-    record {
-      table = grid_cut c.args.self.now.cells.now c.args.self.now.count c.count-n.result c.args.from c.args.to c.count-n.ensures.value (omega arith) (omega arith) (omega arith) (omega arith);
-      refused = tt;
-      cells = ap (λ k. set c.args.self.now.cells.now (c.args.from * k + c.args.to) 0) c.count-n.ensures.value;
-      same = refl;
-    }
+pub returns-clause-table : goal.returns-clause-table
+returns-clause-table c =
+    let self = c.args.self.now in
+    grid_cut self.cells.now self.count c.args.from c.args.to c.in_ok-place.place c.in_ok-place.ensures (omega arith)

@@ -1,5 +1,4 @@
 use Rattle.std.proofs.Common.{◌≡◌, ℕ, ◌+◌, ◌-◌, ◌<◌, List, length, take, drop, Err, sym, refl, ap, ◌∙◌, arith, length-drop}
-use native.Mathlib.Nat.{sub-zero}
 use Rattle.std.proofs.lemmas.List.{take_rest}
 use Rattle.linkfile.specs.Lines.{before, apart, moved, counted}
 use Rattle.linkfile.specs.Reading.{Standing}
@@ -15,7 +14,7 @@ returns-then-len-rest c =
     let reader = c.args.self.now in
     let text = reader.text.now in
     let same = take_rest text reader.at in
-    let (answer, place, count) = unended (drop reader.at text) reader.line (sym (c.find-len.ensures ∙ ap (before 10) same) ∙ c.if-len-rest.true ∙ ap length same) in
+    let (answer, place, count) = unended (drop reader.at text) reader.line (sym (c.find-len.ensures.place ∙ ap (before 10) same) ∙ c.if-len-rest.true ∙ ap length same) in
     record {
       answer = ap Err c.bad_line.ensures ∙ sym answer;
       text = refl;
@@ -29,7 +28,7 @@ ends_inside c =
     let text = c.args.self.now.text.now in
     let at = c.args.self.now.at in
     let same = take_rest text at in
-    let n = c.find-len.ensures ∙ ap (before 10) same in
+    let n = c.find-len.ensures.place ∙ ap (before 10) same in
     let ne : c.find-len.result ≡ length (drop at text) → ⊥ = λ e. c.if-len-rest.false (e ∙ sym (ap length same)) in
     omega (arith, n, ne, before_le 10 (drop at text), length-drop at text, c.args.self.now.inside)
 
@@ -49,9 +48,9 @@ returns c =
     let line = c.args.self.now.line in
     let same = take_rest text.now at in
     let rest = drop at text.now in
-    let n = c.find-len.ensures ∙ ap (before 10) same in
+    let n = c.find-len.ensures.place ∙ ap (before 10) same in
     let more = ended rest line (λ e. c.if-len-rest.false (n ∙ e ∙ sym (ap length same))) in
-    let body : take (c.find-len.result - 0) (take (length text.now - at) rest) ≡ take (before 10 rest) rest = λ i. take ((sub-zero c.find-len.result ∙ n) i) (same i) in
+    let body : take c.find-len.result (take (length text.now - at) rest) ≡ take (before 10 rest) rest = λ i. take (n i) (same i) in
     record {
       answer = c.take_apart.ensures.answer ∙ ap (λ b. apart b line) body ∙ sym more.0;
       text = refl;

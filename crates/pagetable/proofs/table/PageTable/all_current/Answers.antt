@@ -1,19 +1,10 @@
-use Rattle.std.proofs.Common.{◌≡◌, sym, ap, ◌∙◌, arith}
-use Rattle.pagetable.specs.Walks.{all_current}
-use Rattle.pagetable.proofs.WalkLaws.{current_none, current_more, current_fails}
+use Rattle.std.proofs.Common.{take, rules, tests, ◌∙◌}
+use Rattle.std.proofs.lemmas.Iterator.{YieldsList-from_slice}
+use Rattle.std.proofs.lemmas.Iterator.Search.{all_from_yields_List}
+use Rattle.pagetable.proofs.WalkLaws.{all_marked}
 use Rattle.pagetable.proofs.table.PageTable.all_current.Goals as goal
-
-pub loop-root-init : goal.loop-root-init
-loop-root-init c = current_none c.args.self.now
-
-pub loop-root-preserved : goal.loop-root-preserved
-loop-root-preserved c = current_more c.args.self.now c.loop-root.root c.loop-root.invariant (sym c.if-not-is_current.ensures)
-
-pub returns-then-not-is_current : goal.returns-then-not-is_current
-returns-then-not-is_current c =
-    sym (current_fails c.args.self.now c.args.count c.loop-root.root c.loop-root-test.true (sym c.if-not-is_current.ensures))
 
 pub returns : goal.returns
 returns c =
-    let end : c.loop-root.root ≡ c.args.count = omega arith in
-    sym (ap (all_current c.args.self.now) (sym end) ∙ c.loop-root.invariant)
+    all_from_yields_List (λ b. b) _ _ c.all.result c.all.ensures.ran (YieldsList-from_slice (take c.args.count c.args.self.now.current) cc) (λ x b q k. search (rules, tests))
+    ∙ all_marked c.args.self.now c.args.count (search rules)

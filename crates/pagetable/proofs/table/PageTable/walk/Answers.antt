@@ -1,6 +1,6 @@
 use Rattle.std.proofs.Common.{◌≡◌, ℕ, ◌+◌, ◌-◌, ◌%◌, ◌<◌, [], ◌∷◌, length, get_or, take, drop, sym, ap, ◌∙◌, add-zero, arith, length-set}
 use lib.Count.{ones}
-use Rattle.std.proofs.lemmas.Nat.{mod_below, ones-le}
+use Rattle.std.proofs.lemmas.Nat.{mod_below}
 use Rattle.std.proofs.lemmas.List.{length_push, length-take, get_or-take, drop_all}
 use Rattle.masks.specs.Sets.{members}
 use Rattle.masks.proofs.SetLaws.{members_in, members_out}
@@ -9,15 +9,11 @@ use Rattle.pagetable.specs.Walks.{valid_sets, walk_by}
 use Rattle.pagetable.proofs.MemberLaws.{length_members, nth_member}
 use Rattle.pagetable.proofs.WalkLaws.{walk_begins, walk_turns, walk_ends, walk_none, walk_there, walk_stuck}
 use Rattle.pagetable.proofs.table.PageTable.walk.Goals as goal
-use Rattle.pagetable.proofs.table.PageTable.walk.Goals.{After-valid_to-set, Left-loop-v, then-has+else-rank-eq0, else-has, else-loop-v-test, then-loop-v-test+then-has+then-rank-eq0, then-here-to-via-then-here-to, then-here-to-via-else-here-to+then-i-count}
+use Rattle.pagetable.proofs.table.PageTable.walk.Goals.{After-valid_to-set, then-has+else-rank-eq0, else-has, else-loop-v-test, then-loop-v-test+then-has+then-rank-eq0, then-here-to-via-then-here-to, then-here-to-via-else-here-to+then-i-count}
 
 -- the set that is read is that of the page
 set_is : (c : After-valid_to-set) → c.valid_to-set.result ≡ valid_sets c.args.self.now c.args.to c.loop-i.here
 set_is c = c.valid_to-set.ensures ∙ ap (λ (p : Page). get_or p.valid c.args.to 0) c.page.ensures
-
--- there is room for one router more
-room : (c : Left-loop-v) → c.loop-i.i + 1 < length c.walk.trail
-room c = omega (arith, c.loop-i.invariant.2, ap length c.walk.invariant.1 ∙ length-set c.args.trail.now 0 c.args.from)
 
 pub loop-i-init : goal.loop-i-init
 loop-i-init c = (
@@ -30,9 +26,6 @@ pub loop-v-init : goal.loop-v-init
 unfolding members
 loop-v-init c = add-zero _
 
-pub overflow_cast-many : goal.overflow_cast-many
-overflow_cast-many c = omega (arith, ones-le 32 c.valid_to-set.result c.valid_to-set.type_inv)
-
 pub loop-v-preserved : goal.loop-v-preserved
 loop-v-preserved c =
     elim c.if-has.branch [
@@ -43,9 +36,6 @@ loop-v-preserved c =
           let e = ap length (members_out c.valid_to-set.result c.loop-v.v (sym w.if-has.ensures)) in
           omega (arith, w.rank-is, c.loop-v.invariant, e)
     ]
-
-pub bounds-trail-i : goal.bounds-trail-i
-bounds-trail-i c = omega (arith, room c, c.loop-i.auto.trail)
 
 pub loop-i-preserved : goal.loop-i-preserved
 loop-i-preserved c =
@@ -75,7 +65,7 @@ loop-i-preserved c =
     found.0 ∙ ap (λ n. get_or (members c.valid_to-set.result 32) (pick % n) 0) many_is
     ∙ (λ j. get_or (members (same_set j) 32) (same_pick j % length (members (same_set j) 32)) 0) in (
       walk_turns sets c.args.to c.args.from picks c.walk.trail c.loop-i.trail here i c.loop-v-test.here c.loop-i.invariant.0
-          (omega (arith, first, length-take (c.args.count - 1) c.args.picks.now)) (room c) c.if-here-to.false
+          (omega (arith, first, length-take (c.args.count - 1) c.args.picks.now)) (omega (arith, first, ap length c.walk.invariant.1 ∙ length-set c.args.trail.now 0 c.args.from)) c.if-here-to.false
           (omega (arith, some, many_is, ap (λ n. length (members n 32)) same_set)) next_is,
       found.1,
       omega (arith, first),

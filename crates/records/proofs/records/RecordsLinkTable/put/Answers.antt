@@ -1,31 +1,29 @@
-use Rattle.std.proofs.Common.{length, set, Err, sym, refl, ap, subst, arith}
+use Rattle.std.proofs.Common.{◌≡◌, length, None, Err, subst, rules, arith}
 use Rattle.records.proofs.Calls.{put_tidy, put_granted, put_full}
-use Rattle.records.proofs.Places.{found_some}
 use Rattle.records.proofs.records.RecordsLinkTable.put.Goals as goal
+use Rattle.faults.specs.declared.fault.Fault.TheVariants.{Table}
+use Rattle.faults.specs.declared.refusal.Refusal.TheVariants.{Full}
+use Rattle.records.specs.Lists.{list_table, found, place_of}
 use Rattle.tables.specs.Tables.{Put}
-use Rattle.records.specs.Lists.{list_table, link_of, place_of}
+use Rattle.tables.proofs.Pairs.{pair_checked}
 
-pub returns-in_default : goal.returns-in_default
-returns-in_default c =
-    let before = list_table c.args.self.now.records.now c.args.self.now.count in
-    record {
-      table = subst (λ f. Put c.args.from c.args.to c.args.number before (Err f) before) (sym c.of_table-in_default.ensures) (put_full c.args.self.now.records.now c.args.self.now.count c.args.from c.args.to c.args.self.now.ok (omega arith) (omega arith) (omega arith) c.args.number c.in_default.ensures (omega arith) (omega arith));
-      refused = refl;
-      records = refl;
-      same = refl;
-    }
+pub returns-in_err-place-clause-table : goal.returns-in_err-place-clause-table
+returns-in_err-place-clause-table c =
+    let self = c.args.self.now in
+    let t = list_table self.records.now self.count in
+    let p = pair_checked self.count c.args.from c.args.to (search rules) in
+    let none : None ≡ found (place_of self.records.now c.args.from c.args.to) (length self.records.now) = search rules in
+    let refused : Err (Table Full 0) ≡ c.from_residual-in_err-place.result = search rules in
+    subst (λ r. Put c.args.from c.args.to c.args.number t r t) refused (put_full self.records.now self.count c.args.from c.args.to self.ok p.0 p.1 p.2 c.args.number none (omega arith) (omega arith))
 
 pub invariant_of-self : goal.invariant_of-self
 invariant_of-self c =
-    record { ok = put_tidy c.args.self.now.records.now c.args.self.now.count c.args.from c.args.to c.args.self.now.ok (omega arith) (omega arith) (omega arith) c.args.number c.in-Some.i c.in-Some.ensures }
+    let self = c.args.self.now in
+    let p = pair_checked self.count c.args.from c.args.to (search rules) in
+    record { ok = put_tidy self.records.now self.count c.args.from c.args.to self.ok p.0 p.1 p.2 c.args.number c.in_ok-place.place (search rules) }
 
-pub returns : goal.returns
-returns c =
-    let rs = c.args.self.now.records.now in
-    let e = c.in-Some.ensures in
-    record {
-      table = put_granted rs c.args.self.now.count c.args.from c.args.to c.args.self.now.ok (omega arith) (omega arith) (omega arith) c.args.number c.in-Some.i e (omega arith) (omega arith);
-      refused = tt;
-      records = ap (λ i. set rs i (link_of c.args.from c.args.to c.args.number)) (found_some (place_of rs c.args.from c.args.to) (length rs) c.in-Some.i e).0;
-      same = refl;
-    }
+pub returns-clause-table : goal.returns-clause-table
+returns-clause-table c =
+    let self = c.args.self.now in
+    let p = pair_checked self.count c.args.from c.args.to (search rules) in
+    put_granted self.records.now self.count c.args.from c.args.to self.ok p.0 p.1 p.2 c.args.number c.in_ok-place.place (search rules) (omega arith) (omega arith)

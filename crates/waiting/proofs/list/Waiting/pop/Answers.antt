@@ -1,4 +1,4 @@
-use Rattle.std.proofs.Common.{◌<◌, length, refl, ◌∙◌, arith}
+use Rattle.std.proofs.Common.{◌<◌, length, refl, arith}
 use Rattle.std.proofs.lemmas.List.{get_or_default}
 use Rattle.waiting.specs.Waiting.{memory}
 use Rattle.waiting.proofs.CallFacts.{popped}
@@ -11,6 +11,6 @@ returns g c =
     let some : 0 < w.len = omega arith in
     let there : 0 < length (memory w) = omega (arith, w.within) in
     record {
-      answer = popped g.met.E.Ranked.ordered w c.swap.new.self _ c.sift_down.new.self _ some c.swap.ensures.after refl refl (get_or_default (memory w) 0 _ _ there) s.stirred s.heaped;
-      handed = s.stirred.home ∙ c.swap.ensures.handed;
+      answer = popped g.met.E.Ranked.ordered w _ c.sift_down.new.self _ some c.swap.ensures.after refl (get_or_default (memory w) 0 _ _ there) s.stirred s.heaped;
+      handed = s.stirred.home;
     }

@@ -1,5 +1,4 @@
-use Rattle.std.proofs.Common.{◌≡◌, ◌+◌, ◌<◌, ◌≤◌, sym, ap, ◌∙◌, subst, arith}
-use Rattle.waiting.specs.Heap.{Heavy}
+use Rattle.std.proofs.Common.{refl, ◌≡◌, ◌+◌, ◌<◌, ◌≤◌, ap, ◌∙◌, arith}
 use Rattle.waiting.specs.Waiting.{memory}
 use Rattle.waiting.proofs.Depths.{depth, depth_more, depth_rises}
 use Rattle.waiting.proofs.Sifts.{heavy_step, heavy_end}
@@ -18,15 +17,14 @@ pub loop-at-preserved : goal.loop-at-preserved
 loop-at-preserved g c =
     let o = g.met.E.Ranked.ordered in
     let v = c.loop-at.self in
-    let u = c.swap.new.self in
+    let after = c.swap.new.self in
     let at = c.loop-at.at in
     let m = c.least_child-child.ensures in
     let child = c.least_child-child.result in
-    let is = c.swap.ensures in
+    let is = c.swap.ensures.after in
     let below : at < v.len = omega arith in
-    let stirred = stirred_swap _ v u at child c.loop-at.invariant.0 is.len is.after is.handed below m.within in
-    let step = heavy_step o (memory v) (memory u) v.len at child v.within m c.if-not-is_before.ensures (swapped v u at child is.after below m.within) in
-    (stirred, λ l. subst (λ n. Heavy g.E.Ranked.before (memory u) n child) (sym is.len) (step (c.loop-at.invariant.1 l)))
+    let step = heavy_step o (memory v) after v.len at child v.within m c.if-not-is_before.ensures (swapped v after at child is below m.within) in
+    (stirred_swap _ v _ at child c.loop-at.invariant.0 refl is refl below m.within, λ l. step (c.loop-at.invariant.1 l))
 
 pub loop-at-smaller : goal.loop-at-smaller
 loop-at-smaller g c =

@@ -1,5 +1,4 @@
-use Rattle.std.proofs.Common.{◌-◌, ◌/◌, ◌<◌, sym, subst, arith}
-use Rattle.waiting.specs.Heap.{Light}
+use Rattle.std.proofs.Common.{refl, ◌-◌, ◌/◌, ◌<◌, arith}
 use Rattle.waiting.specs.Waiting.{memory}
 use Rattle.waiting.proofs.Depths.{depth_more}
 use Rattle.waiting.proofs.Sifts.{light_step, light_end}
@@ -18,14 +17,13 @@ pub loop-at-preserved : goal.loop-at-preserved
 loop-at-preserved g c =
     let o = g.met.E.Ranked.ordered in
     let v = c.loop-at.self in
-    let u = c.swap.new.self in
+    let after = c.swap.new.self in
     let at = c.loop-at.at in
     let p = (at - 1) / 2 in
-    let is = c.swap.ensures in
+    let is = c.swap.ensures.after in
     let below : p < v.len = omega arith in
-    let stirred = stirred_swap _ v u p at c.loop-at.invariant.1 is.len is.after is.handed below c.loop-at.invariant.0 in
-    let step = light_step o (memory v) (memory u) v.len at c.loop-at-test.true c.loop-at.invariant.0 c.if-not-is_before.ensures (swapped v u p at is.after below c.loop-at.invariant.0) in
-    (omega arith, stirred, λ l. subst (λ n. Light g.E.Ranked.before (memory u) n p) (sym is.len) (step (c.loop-at.invariant.2 l)))
+    let step = light_step o (memory v) after v.len at c.loop-at-test.true c.loop-at.invariant.0 c.if-not-is_before.ensures (swapped v after p at is below c.loop-at.invariant.0) in
+    (omega arith, stirred_swap _ v _ p at c.loop-at.invariant.1 refl is refl below c.loop-at.invariant.0, λ l. step (c.loop-at.invariant.2 l))
 
 pub loop-at-smaller : goal.loop-at-smaller
 loop-at-smaller g c = omega (arith, depth_more c.loop-at.at c.loop-at-test.true)

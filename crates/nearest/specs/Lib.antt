@@ -1,3 +1,0 @@
-pub mod Matrix
-pub mod Found
-pub mod Steps

@@ -1,0 +1,3 @@
+pub mod Befores
+pub mod Offers
+pub mod Joins

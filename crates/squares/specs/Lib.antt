@@ -1,0 +1,7 @@
+pub mod Networks
+pub mod Meaning
+pub mod Chosen
+pub mod Squares
+pub mod Numbers
+pub mod Known
+pub mod Found
