@@ -5,7 +5,7 @@
 
 1  own enums; Option and Result taken apart by hand where a method passes them on; flags; number codes
 2  functions of at least five lines that are alike but for names and types
-3  loops over a range, by `while`, or over an enumeration that ends at the first hit
+3  loops over a range, by `while`, or over an enumeration that is only read
 4  equality, order, conversion and printing by hand
 5  clauses that stand in three contracts or more, and a parameter that three functions or more take with another and never without
 6  arrays side by side in a struct, and a length beside a buffer
@@ -27,9 +27,9 @@ PATTERNS = {
         r"^\s*(pub(\(crate\))? )?\w+: \[?bool\b",
         r"\) -> (u8|u16)$|\{ None \} else \{ Some",
     ],
-    3: [r"^\s*for \w+ in [^{]*\.\.[^{]*\{", r"^\s*while (?!let)", r"^\s*for \(\w+, \w+\) in .*enumerate\(\) \{"],
+    3: [r"^\s*for \w+ in [^{]*\.\.[^{]*\{", r"^\s*while (?!let)", r"^\s*for \(\w+, \w+\) in .*\.iter\(\)\.enumerate\(\) \{"],
     4: [
-        r"^\s*(pub(\(crate\))? )?fn (same|equal|lower|precedes|compare|is_before|named|name|number|tell_\w+|narrowed|on_line)\b",
+        r"^\s*(pub(\(crate\))? )?fn (same\w*|equal|lower|precedes|compare|is_before|named|name|tell_\w+|narrowed|on_line|number\(self\)|is\(|parts\()",
         r"[\w)\]] as (usize|u64|u32|u16|u8)\b",
     ],
     6: [r"^\s*(pub(\(crate\))? )?\w+: (\[[^;]+; \d+\]|&'a (mut )?\[.*\]),$", r"^\s*(pub(\(crate\))? )?(many|len|at): usize,"],

@@ -9,10 +9,7 @@ use tables::LinkTable;
 fn shown_number<T: LinkTable>(table: &T, from: usize, to: usize) -> u32
     ensures { result ≡ number_shown (means T.LinkTable table.now) from to }
 {
-    match table.number(from, to) {
-        Some(number) => number,
-        None => 0,
-    }
+    table.number(from, to).unwrap_or(0)
 }
 
 // The numbers of all pairs, that from one router to another at place from × count + to.
@@ -21,8 +18,10 @@ pub(crate) fn read_links<T: LinkTable>(table: &T) -> [u32; 1024]
 {
     let count = table.count();
     let mut numbers = [0; 1024];
-    for place in 0..count * count {
-        numbers[place] = shown_number(table, place / count, place % count);
+    for (place, number) in numbers.iter_mut().enumerate() {
+        if place < count * count {
+            *number = shown_number(table, place / count, place % count);
+        }
     }
     numbers
 }

@@ -28,11 +28,7 @@ fn settle_refused<T: LinkTable>(
     assert_eq!(rt; answer, Err(by_area(refusal)));
     assert_eq!(rt; best, [9; 5]);
     assert_eq!(rt; rest, [9; 25]);
-    assert!(rt;
-        waiting
-            .iter()
-            .all(|entry| entry.cost == 9 && entry.router == 9)
-    );
+    assert_eq!(rt; waiting, [Entry { cost: 9, router: 9 }; 25]);
 }
 
 #[test]

@@ -1,4 +1,6 @@
 // What the lines mean, read one after another.
+// kept: that the reader still has the lent text, and where it then stands, is said by each call: a reader is lent and moved on, and its
+// type cannot say by how much.
 ghost use Rattle.std.specs.Prelude.{◌≡◌, ◌+◌};
 ghost use Rattle.decimals.specs.Numbers.{numeral};
 ghost use Rattle.linkfile.specs.Lines.{routers, rule};

@@ -7,6 +7,7 @@ use faults::{Fault, Refusal};
 use tables::{LinkTable, check_making, check_pair};
 
 // A cell for each ordered pair of routers, at from * count + to; 0 means no link.
+// kept: 0 and no `Option`, since a rule of the project fixes a cell of 16 bits.
 // kept: no invariant ties the count to the cells, since an area on a table with a ghost field was not covered by
 // the borrow checker where it is held by value; `routers` makes the meaning total instead.
 #[derive(Drop)]
@@ -101,6 +102,7 @@ impl<'a> LinkTable for Grid<'a> {
         if number == 0 || number > self.greatest() {
             return Err(Fault::of_table(Refusal::NumberOutOfRange));
         }
+        // kept: a cast and no `try_from`, since the range was tested in the line above
         self.cells[place] = number as u16;
         Ok(())
     }

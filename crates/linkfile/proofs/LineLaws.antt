@@ -1,11 +1,10 @@
 -- Laws of the lines.
-use Rattle.std.proofs.Common.{◌≡◌, ℕ, suc, ◌+◌, ◌-◌, ◌<◌, ◌≤◌, eqb, List, [], ◌∷◌, ◌++◌, length, get_or, take, drop, Some, None, Ok, Err, Option, Result, sym, refl, ap, ◌∙◌, subst, ⊎_elim, append_assoc, add-one, arith, length-append, length-drop, get_or-drop, true, false, Bor, cond, ltb, ltb-false, bytes_eq}
+use Rattle.std.proofs.Common.{◌≡◌, ℕ, suc, ◌+◌, ◌≤◌, eqb, List, [], ◌∷◌, ◌++◌, length, get_or, take, drop, Some, None, Ok, Err, Option, Result, sym, refl, ap, ◌∙◌, subst, ⊎_elim, append_assoc, add-one, arith, length-append, Bor, cond, ltb, ltb-false}
 use Rattle.std.specs.List.{position_or_len}
 use Rattle.std.specs.Option.{unwrap_or}
-use Rattle.std.proofs.lemmas.List.{take_rest, take_at, drop_at, take-append-drop, drop_more}
-use Rattle.std.proofs.lemmas.Slice.Eq.{bytes_eq-Decides}
+use Rattle.std.proofs.lemmas.List.{take_at, drop_at, drop_more}
 use Rattle.std.proofs.lemmas.List.Recursion.{is_position_or_len}
-use Rattle.std.proofs.lemmas.Bool.{both_ways, eq-eqb, ne_eqb, eqb-true, cases_Bool, cases_eq, cond-true, cond-false, cond_both}
+use Rattle.std.proofs.lemmas.Bool.{eq-eqb, ne_eqb, eqb-true, cases_Bool, cases_eq, cond-true, cond-false, cond_both}
 use Rattle.faults.specs.declared.fault.Fault.{Fault}
 use Rattle.linkfile.specs.declared.line.Key.{Key}
 use Rattle.linkfile.specs.declared.line.Key.TheVariants as k
@@ -83,65 +82,32 @@ behind_is (k ∷ key) (b ∷ body) value e =
     (λ h. let z : ◌≡◌ {A = Option (List ℕ)} (Some value) None = sym e ∙ cond-false (eqb b k) _ _ h in let y : ◌≡◌ {A = ℕ} 0 1 = cc in absurd (omega arith))
     (cases_Bool (eqb b k))
 
--- ---- a line taken apart at its first byte `=`
-none_behind : (k : Key) (body : List ℕ) → ((v : List ℕ) → body ≡ spelling k ++ 61 ∷ v → ⊥) → (o : Option (List ℕ)) → behind (spelling k ++ 61 ∷ []) body ≡ o → behind (spelling k ++ 61 ∷ []) body ≡ None
-none_behind k body h (Some v) e = absurd (h v (behind_is (spelling k ++ 61 ∷ []) body v e ∙ append_assoc (spelling k) (61 ∷ []) v))
-none_behind k body h None e = e
+-- ---- the bytes that a slice pattern names
+-- the bytes of the key stand in the line, from place n on
+abbrev pub Front : List ℕ → ℕ → List ℕ → Type 0
+Front [] n body = Unit {0}
+Front (k ∷ key) n body = (get_or body n 0 ≡ k) × Front key (suc n) body
 
-keyed_none : (ks : List Key) (body : List ℕ) (line : ℕ) → ((k : Key) (v : List ℕ) → body ≡ spelling k ++ 61 ∷ v → ⊥) → keyed ks body line ≡ Err (bad line)
-keyed_none [] body line h = refl
-keyed_none (k ∷ ks) body line h = ap (λ o. valued k line o (keyed ks body line)) (none_behind k body (h k) _ refl) ∙ keyed_none ks body line h
+pub front_is : (key : List ℕ) (n : ℕ) (body : List ℕ) → n + length key ≤ length body → Front key n body → drop n body ≡ key ++ drop (n + length key) body
+front_is [] n body l f = ap (λ m. drop m body) (omega arith)
+front_is (k ∷ key) n body l f =
+    simp add-one at (drop_more body n 0 (omega arith))
+    ∙ ap (λ x. x ∷ drop (suc n) body) f.0
+    ∙ ap (λ t. k ∷ t) (front_is key (suc n) body (omega arith) f.1 ∙ ap (λ m. key ++ drop m body) (omega arith))
 
--- what begins with none of the keys and the byte `=`
-pub apart_none : (body : List ℕ) (line : ℕ) → ((k : Key) (v : List ℕ) → body ≡ spelling k ++ 61 ∷ v → ⊥) → apart body line ≡ Err (bad line)
-apart_none body line h = keyed_none (routers ∷ rule ∷ from ∷ to ∷ weight ∷ end ∷ []) body line h
+front_on : (key : List ℕ) (n b : ℕ) (body : List ℕ) → Front key n body → Front key (suc n) (b ∷ body)
+front_on [] n b body f = tt
+front_on (k ∷ key) n b body f = (f.0, front_on key (suc n) b body f.1)
 
--- where a line begins with a key and the byte `=`
-pub record Front (k : Key) (body : List ℕ) : Type 0 where
-  pub name : take (before 61 body) body ≡ spelling k
-  pub there : get_or body (before 61 body) 0 ≡ 61
-  pub inside : before 61 body < length body
-
-front_at : (k : Key) (v : List ℕ) → Front k (spelling k ++ 61 ∷ v)
-unfolding before
-front_at k.Routers v = record { name = refl; there = refl; inside = omega arith }
-front_at k.Rule v = record { name = refl; there = refl; inside = omega arith }
-front_at k.From v = record { name = refl; there = refl; inside = omega arith }
-front_at k.To v = record { name = refl; there = refl; inside = omega arith }
-front_at k.Weight v = record { name = refl; there = refl; inside = omega arith }
-front_at k.End v = record { name = refl; there = refl; inside = omega arith }
-
-pub front : (k : Key) (v body : List ℕ) → body ≡ spelling k ++ 61 ∷ v → Front k body
-front k v body e = subst (Front k) (sym e) (front_at k v)
-
--- a line is what stands before a byte `=`, that byte, and the rest
-pub parted : (body rest : List ℕ) (at : ℕ) → rest ≡ take (length body - at) (drop at body) → 0 < length rest → get_or rest 0 0 ≡ 61 → body ≡ take at body ++ 61 ∷ take (length rest - 1) (drop 1 rest)
-parted body rest at e some is =
-    sym (take-append-drop at body)
-    ∙ ap (λ t. take at body ++ t) (sym (e ∙ take_rest body at) ∙ drop_more rest 0 0 some ∙ (λ i. is i ∷ sym (take_rest rest 1) i))
-
-pub begins : (body rest : List ℕ) (at : ℕ) → rest ≡ take (length body - at) (drop at body) → (length rest ≡ length body - at) × (get_or rest 0 0 ≡ get_or body at 0)
-begins body rest at e =
-    let is = e ∙ take_rest body at in
-    (ap length is ∙ length-drop at body, ap (λ l. get_or l 0 0) is ∙ get_or-drop at body 0 0 ∙ ap (λ i. get_or body i 0) (omega arith))
-
-apart_line : (k : Key) (value : List ℕ) (line : ℕ) → apart (spelling k ++ 61 ∷ value) line ≡ Ok (record { kind = k; key = spelling k; value = value; line = line })
-apart_line k.Routers value line = refl
-apart_line k.Rule value line = refl
-apart_line k.From value line = refl
-apart_line k.To value line = refl
-apart_line k.Weight value line = refl
-apart_line k.End value line = refl
-
--- what stands before the first `=` is none of the keys
-pub apart_other : (body : List ℕ) (line : ℕ) → ((k : Key) → bytes_eq (take (before 61 body) body) (spelling k) ≡ false) → apart body line ≡ Err (bad line)
-apart_other body line h = apart_none body line (λ k v e. both_ways (bytes_eq (take (before 61 body) body) (spelling k)) (h k) ((bytes_eq-Decides _ _).1 (front k v body e).name))
-
-pub apart_named : (k : Key) (body key value : List ℕ) (line : ℕ) → bytes_eq key (spelling k) ≡ true → body ≡ key ++ 61 ∷ value → Ok (record { kind = k; key = key; value = value; line = line }) ≡ apart body line
-apart_named k body key value line h e =
-    let is = (bytes_eq-Decides key (spelling k)).0 h in
-    (λ i. Ok (record { kind = k; key = is i; value = value; line = line }))
-    ∙ sym (ap (λ b. apart b line) (e ∙ ap (λ t. t ++ 61 ∷ value) is) ∙ apart_line k value line)
+-- a line that a pattern of these bytes does not match
+pub not_behind : (key body : List ℕ) → (length key ≤ length body → Front key 0 body → ⊥) → behind key body ≡ None
+not_behind [] body h = absurd (h (omega arith) tt)
+not_behind (k ∷ key) [] h = refl
+not_behind (k ∷ key) (b ∷ body) h =
+    ⊎_elim
+    (λ t. cond-true (eqb b k) _ _ t ∙ not_behind key body (λ l f. h (omega arith) (eqb-true b k t, front_on key 0 b body f)))
+    (λ t. cond-false (eqb b k) _ _ t)
+    (cases_Bool (eqb b k))
 
 pub record Spelt (body : List ℕ) (line : ℕ) (s : Said) : Type 0 where
   pub bytes : body ≡ spelling s.kind ++ 61 ∷ s.value
@@ -216,6 +182,14 @@ lacks_key k.From = refl
 lacks_key k.To = refl
 lacks_key k.Weight = refl
 lacks_key k.End = refl
+
+apart_line : (k : Key) (value : List ℕ) (line : ℕ) → apart (spelling k ++ 61 ∷ value) line ≡ Ok (record { kind = k; key = spelling k; value = value; line = line })
+apart_line k.Routers value line = refl
+apart_line k.Rule value line = refl
+apart_line k.From value line = refl
+apart_line k.To value line = refl
+apart_line k.Weight value line = refl
+apart_line k.End value line = refl
 
 told_body : (body more : List ℕ) (line : ℕ) → Lacks 10 body → (told (body ++ 10 ∷ more) line ≡ apart body line) × (drop (moved (body ++ 10 ∷ more)) (body ++ 10 ∷ more) ≡ more)
 told_body body more line h =

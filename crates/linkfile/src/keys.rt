@@ -1,10 +1,9 @@
-// A line is taken apart at its first byte `=`.
+// A line is taken apart by its first bytes, a key and the byte `=`.
 ghost use Rattle.std.specs.Prelude.{◌≡◌};
 ghost use Rattle.std.specs.Str.{bytes_eq};
 ghost use Rattle.linkfile.specs.Lines.{bad, said, held, answered, AnswerParts, apart};
 
 use crate::line::{Key, Line};
-use crate::next_line::find;
 use faults::{Fault, Refusal};
 
 // The fault of a line that breaks the file's form.
@@ -30,26 +29,31 @@ pub(crate) fn take_apart<'a>(body: &'a [u8], line: usize) -> Result<Line<'a>, Fa
     ensures answer { answered result ≡ apart body.now line }
     ensures parts { AnswerParts body.entry 0 result }
 {
-    let end = find(body, b'=');
-    let [b'=', value @ ..] = &body[end..] else {
-        return Err(bad_line(line));
-    };
-    let key = &body[..end];
-    if same(key, b"routers") {
-        Ok(Line::Routers { key, value, line })
-    } else if same(key, b"rule") {
-        Ok(Line::Rule { key, value, line })
-    } else if same(key, b"from") {
-        Ok(Line::From { key, value, line })
-    } else if same(key, b"to") {
-        Ok(Line::To { key, value, line })
-    } else if same(key, b"weight") {
-        Ok(Line::Weight { key, value, line })
-    } else if same(key, b"end") {
-        Ok(Line::End { key, value, line })
-    } else {
-        Err(bad_line(line))
+    if let [b'r', b'o', b'u', b't', b'e', b'r', b's', b'=', value @ ..] = body {
+        let key = &body[..7];
+        return Ok(Line::Routers { key, value, line });
     }
+    if let [b'r', b'u', b'l', b'e', b'=', value @ ..] = body {
+        let key = &body[..4];
+        return Ok(Line::Rule { key, value, line });
+    }
+    if let [b'f', b'r', b'o', b'm', b'=', value @ ..] = body {
+        let key = &body[..4];
+        return Ok(Line::From { key, value, line });
+    }
+    if let [b't', b'o', b'=', value @ ..] = body {
+        let key = &body[..2];
+        return Ok(Line::To { key, value, line });
+    }
+    if let [b'w', b'e', b'i', b'g', b'h', b't', b'=', value @ ..] = body {
+        let key = &body[..6];
+        return Ok(Line::Weight { key, value, line });
+    }
+    if let [b'e', b'n', b'd', b'=', value @ ..] = body {
+        let key = &body[..3];
+        return Ok(Line::End { key, value, line });
+    }
+    Err(bad_line(line))
 }
 
 impl<'a> Line<'a> {

@@ -1,5 +1,5 @@
 // Sets of routers as 32-bit masks.
-// kept: pages keep their sets in handed memory, 32 bits a set (no heap), so a set is a number.
+// kept: a set is a number and has no type of its own: a rule of the project wants hops to answer 32-bit masks.
 #![tactic(auto)]
 
 ghost use Rattle.std.specs.Prelude.{◌≡◌, ℕ, ◌<◌, ◌≤◌, ◌||◌, ◌==◌};

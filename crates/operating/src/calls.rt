@@ -1,7 +1,7 @@
 use faults::Fault;
 
 // A call on an area. The memories that calls write are handed over beside the calls.
-#[derive(Clone, Copy)]
+#[derive(Clone, Copy, Debug, PartialEq, Eq)]
 pub enum Call<'a> {
     Put {
         from: usize,

@@ -4,6 +4,7 @@ use faults::{Fault, Refusal};
 use grid::Grid;
 use operating::{Answer, Call, Memories, operate};
 
+// kept: written out here and in area_tests, since a crate of tests hands nothing to another.
 // The links of net K, which has five routers: each stands in both directions, with the same number.
 const LINKS: [(usize, usize, u32); 5] = [(0, 1, 1), (0, 2, 3), (1, 3, 2), (2, 3, 1), (3, 4, 1)];
 

@@ -1,4 +1,3 @@
-pub mod Fills
 pub mod SetSteps
 pub mod Rests
 pub mod Turns

@@ -1,4 +1,5 @@
 // The candidates and the valid hops of each router on the page of a root.
+// kept: two arrays, as the page has them.
 #[derive(Clone, Copy)]
 pub struct Sets {
     pub candidates: [u32; 32],

@@ -1,4 +1,5 @@
 // Reads a link file from standard input and prints what it says, or its fault.
+// kept: each program has a `main` of its own, beside that of the other; they differ in the one function of the library that is called.
 #![tactic(auto)]
 
 use std::io::Read;

@@ -6,7 +6,7 @@ use crate::page::Page;
 
 // The pages of an area by root, and which of them are current; the others are stale.
 // kept: marks beside the pages, and no `Option` of a page, since a stale page keeps what was entered last, which `page`
-// promises, and all are marked stale by one write.
+// promises, and all are marked stale by one write. That a root is below 32 is asked of each call: roots are numbers of the caller's.
 #[derive(Drop)]
 pub struct PageTable {
     current: [bool; 32],

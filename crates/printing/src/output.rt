@@ -8,10 +8,9 @@ use crate::head::{file_count, file_rule};
 use crate::reporting::all_reports;
 use area::Area;
 use costs::{Cost, PathCost};
-use faults::{Fault, Refusal};
 use records::{Record, Records};
 use std::alloc::{AllocError, Global};
-use summary::{LONGEST_INPUT, RuleName};
+use summary::{RuleName, check_length};
 use tables::LinkTable;
 
 // The reports of a file that is loaded into a table, which is an empty list of 992 records, or its fault.
@@ -43,14 +42,8 @@ fn print_file<C: Cost>(heap: Global, input: &[u8], count: usize) -> Result<Vec<u
 pub fn print_pages(heap: Global, input: &[u8]) -> Result<Vec<u8>, AllocError>
     ensures { IfOk result (λ bytes. bytes.items ≡ output input.now) }
 {
-    if input.len() > LONGEST_INPUT {
-        return tell_fault(
-            heap,
-            Fault::Area {
-                refusal: Refusal::MemoryTooShort,
-                line: 0,
-            },
-        );
+    if let Err(fault) = check_length(input) {
+        return tell_fault(heap, fault);
     }
     let count = file_count(input);
     match file_rule(input) {

@@ -2,6 +2,7 @@ ghost use Rattle.std.specs.Prelude.{◌≡◌};
 ghost use Rattle.records.specs.Lists.{holds};
 
 // The number of a link from one router to another. A record with the number 0 is free.
+// kept: 0 and no `Option`, since the caller hands the memory and a rule of the project fixes what a record of it holds.
 #[derive(Clone, Copy, Debug, PartialEq, Eq)]
 pub struct Record {
     pub from: usize,

@@ -52,8 +52,8 @@ impl<'a> Records<'a> {
     fn place(&self, from: usize, to: usize) -> Option<usize>
         ensures { result ≡ found (place_of self.now.records.now from to) (length self.now.records.now) }
     {
-        // kept: tried `or_else(|| self.free())`, and the proof of what is returned did not close, since
-        // nothing is known of what a closure over `self` answers.
+        // kept: with `or_else(|| self.free())` the proof of what is returned did not close, since nothing is known of what
+        // a closure over `self` answers; `or(self.free())` would look for a free record each time.
         match self.position(from, to) {
             Some(held) => Some(held),
             None => self.free(),

@@ -20,8 +20,9 @@ use Rattle.routes.specs.Theorems.{Settles}
 use Rattle.routes.proofs.Members.{none_some, present_some}
 use Rattle.routes.proofs.Sizes.{size, size_most}
 use Rattle.routes.proofs.Theorems.{settling_steps_lem}
-use Rattle.waiting.specs.Waiting.{memory, queued, InOrder, Popped}
+use Rattle.waiting.specs.Waiting.{memory, queued, Popped}
 use Rattle.waiting.specs.declared.list.Waiting.{Waiting}
+use Rattle.waiting.specs.declared.ranked.Ranked.{Ghosts}
 use Rattle.squares.specs.Found.{NearestFirst, Searched}
 use Rattle.squares.specs.Known.{costs_in, with_offer, Short}
 use Rattle.squares.specs.declared.found.Found.{Found}
@@ -41,7 +42,7 @@ abbrev pub left : ℕ → ℕ → ℕ
 left count done = count * (count - size count (holds done))
 
 -- `marks` are the routers that are done
-pub record Running {C : Type 0} (N : Network C) (root : ℕ) (best : List C) (known : ℕ) (marks : Found) (w : Waiting (Entry C)) : Type 0 where
+pub record Running {C : Type 0} {ranked : Ghosts (Entry C)} (N : Network C) (root : ℕ) (best : List C) (known : ℕ) (marks : Found) (w : Waiting (Entry C) ranked) : Type 0 where
   pub settling : Settling N root (holds marks.known) (costs_in N.rule best known)
   pub waits : Waits N.rule (holds marks.known) (costs_in N.rule best known) w
   pub room : w.len + left N.count marks.known ≤ N.count * N.count + 1
@@ -79,9 +80,9 @@ module _ {C : Type 0} {N : Network C} {root : ℕ} (sound : Sound N) (inside : r
   settles = settling_steps_lem C N sound root inside
 
   -- the root alone waits
-  module _ {best best' : List C} {known' : ℕ} {w w' : Waiting (Entry C)} (marks : Found) (none : marks.known ≡ 0) (empty : length marks.order.items ≡ 0)
+  module _ {ranked : Ghosts (Entry C)} {best best' : List C} {known' : ℕ} {w w' : Waiting (Entry C) ranked} (marks : Found) (none : marks.known ≡ 0) (empty : length marks.order.items ≡ 0)
       (zeros : (d : ℕ) → d < count → get_or best d rule.zero ≡ rule.zero)
-      (clear : w.len ≡ 0) (ordered : InOrder (entry_before rule.lower) w) (long : count * count ≤ length (memory w))
+      (clear : w.len ≡ 0) (long : count * count ≤ length (memory w))
       (s : Step rule (with_offer rule (costs_in rule best 0) root (Some rule.zero)) (root + 1) 1 best 0 w best' known' w') where
     nothing : (d : ℕ) → costs_in rule best 0 d ≡ None
     nothing d = ap (λ t. cond t (Some (get_or best d rule.zero)) None) (holds_none 0 d refl)
@@ -92,7 +93,6 @@ module _ {C : Type 0} {N : Network C} {root : ℕ} (sound : Sound N) (inside : r
     opened : Waits rule (holds marks.known) (costs_in rule best 0) w
     opened =
         record {
-          ordered = ordered;
           each = λ d b _ e. absurd (none_some b (sym (nothing d) ∙ e));
           within = subst (λ k. AllByRecursion (AboveKnown rule (costs_in rule best 0)) (take k (memory w))) (sym clear) tt;
         }
@@ -115,14 +115,14 @@ module _ {C : Type 0} {N : Network C} {root : ℕ} (sound : Sound N) (inside : r
               };
         }
 
-  module _ {best : List C} {known : ℕ} {marks : Found} {w : Waiting (Entry C)} (run : Running N root best known marks w) where
+  module _ {ranked : Ghosts (Entry C)} {best : List C} {known : ℕ} {marks : Found} {w : Waiting (Entry C) ranked} (run : Running N root best known marks w) where
     abbrev f : ℕ → Option C
     f = costs_in rule best known
 
     abbrev done : ℕ → Bool
     done = holds marks.known
 
-    module _ {e : Entry C} {v : Waiting (Entry C)} (out : Popped (entry_before rule.lower) e w v) where
+    module _ {e : Entry C} {v : Waiting (Entry C) ranked} (out : Popped (entry_before rule.lower) e w v) where
       head : AboveKnown rule f e
       head = (all_shuffled (AboveKnown rule f) (queued w) (e ∷ queued v) out.items run.waits.within).0
 
@@ -144,7 +144,6 @@ module _ {C : Type 0} {N : Network C} {root : ℕ} (sound : Sound N) (inside : r
             settling = run.settling;
             waits =
                 record {
-                  ordered = out.ordered run.waits.ordered;
                   each = λ d b nd is. others d b (λ same. both_ways (done d) nd (ap done same ∙ old)) nd is;
                   within = rest_within;
                 };
@@ -157,7 +156,7 @@ module _ {C : Type 0} {N : Network C} {root : ℕ} (sound : Sound N) (inside : r
       module _ (new : done e.router ≡ false) where
         -- no router that waits is nearer
         not_lower : (y : ℕ) (b : C) → done y ≡ false → f y ≡ Some b → rule.lower b e.cost ≡ false
-        not_lower y b ny is = (or_parts _ _ (all-has _ (queued w) (entry b y) (out.least run.waits.ordered) (run.waits.each y b ny is))).0
+        not_lower y b ny is = (or_parts _ _ (all-has _ (queued w) (entry b y) out.least (run.waits.each y b ny is))).0
 
         near : Nearest N done f e.router e.cost
         near =
@@ -183,12 +182,11 @@ module _ {C : Type 0} {N : Network C} {root : ℕ} (sound : Sound N) (inside : r
           next_waits : Waits rule (holds marks'.known) f v
           next_waits =
               record {
-                ordered = out.ordered run.waits.ordered;
                 each = λ d b nd is. let p = or_parts (done d) (eqb d e.router) (sym (m.done d) ∙ nd) in others d b (eqb-false d e.router p.1) p.0 is;
                 within = rest_within;
               }
 
-          module _ {best' : List C} {known' : ℕ} {w' : Waiting (Entry C)}
+          module _ {best' : List C} {known' : ℕ} {w' : Waiting (Entry C) ranked}
               (s : Step rule (relaxed_by N f e.router e.cost) count count best known v best' known' w') where
             -- it is done now
             pub running_turn : Running N root best' known' marks' w'

@@ -1,12 +1,11 @@
 -- What an offer leaves, taken or not.
-use Rattle.std.proofs.Common.{◌≡◌, ℕ, ◌+◌, ◌<◌, Bool, true, false, cond, ◌||◌, eqb, List, [], ◌∷◌, ◌++◌, length, get_or, set, Some, None, Ok, Err, Option, Result, sym, refl, ap, ◌∙◌, subst, ⊎_elim, arith}
+use Rattle.std.proofs.Common.{◌≡◌, ℕ, ◌+◌, ◌<◌, true, false, cond, ◌||◌, eqb, List, [], ◌∷◌, ◌++◌, length, get_or, set, Some, None, Ok, Err, Option, Result, sym, refl, ap, ◌∙◌, subst, ⊎_elim, arith}
 use Rattle.std.proofs.ByRecursion.{All-push, All-weaker, has_append_left, has_push, all_shuffled, has_shuffled}
 use Rattle.std.proofs.lemmas.List.{get_or-set_same, get_or-set_other, drop-set-lt}
 use Rattle.std.proofs.lemmas.Bool.{cases_eq, cond-true, cond-false, eq-eqb, ne_eqb, eqb-false, or_parts}
 use Rattle.std.specs.List.{ContainsAt}
 use Rattle.faults.specs.declared.refusal.Refusal.{Refusal}
 use Rattle.costs.specs.Costs.{Costs, Laws}
-use Rattle.entries.specs.Entry.{entry_before}
 use Rattle.entries.specs.declared.Entry.{Entry}
 use Rattle.masks.specs.Sets.{holds}
 use Rattle.routes.specs.Leasts.{lesser}
@@ -14,17 +13,18 @@ use Rattle.routes.proofs.Members.{some_inj, none_some}
 use Rattle.routes.proofs.Order.{le_trans, not_above}
 use Rattle.waiting.specs.Waiting.{memory, queued, Pushed, PushAnswer}
 use Rattle.waiting.specs.declared.list.Waiting.{Waiting}
+use Rattle.waiting.specs.declared.ranked.Ranked.{Ghosts}
 use Rattle.squares.specs.Known.{costs_in, with_offer}
 use Rattle.squares.proofs.Offers.{same_either, lesser_none, lesser_old, lesser_new}
 use Rattle.search.specs.Steps.{entry, AboveKnown, Step}
 
 -- a push with room is not refused
-pub with_room : {E : Type 0} (before : E → E → Bool) (e : E) (w w' : Waiting E) (r : Result (Unit {0}) Refusal) → PushAnswer before e w w' r → w.len < length (memory w) → Pushed before e w w'
-with_room before e w w' (Ok _) p room = p
-with_room before e w w' (Err _) p room = absurd (omega (arith, p.full))
+pub with_room : {E : Type 0} {ranked : Ghosts E} (e : E) (w w' : Waiting E ranked) (r : Result (Unit {0}) Refusal) → PushAnswer e w w' r → w.len < length (memory w) → Pushed e w w'
+with_room e w w' (Ok _) p room = p
+with_room e w w' (Err _) p room = absurd (omega (arith, p.full))
 
-module _ {C : Type 0} (rule : Costs C) where
-  module _ (best : List C) (known : ℕ) (w : Waiting (Entry C)) (to : ℕ) where
+module _ {C : Type 0} {ranked : Ghosts (Entry C)} (rule : Costs C) where
+  module _ (best : List C) (known : ℕ) (w : Waiting (Entry C) ranked) (to : ℕ) where
     abbrev f : ℕ → Option C
     f = costs_in rule best known
 
@@ -63,8 +63,8 @@ module _ {C : Type 0} (rule : Costs C) where
         other : (d : ℕ) → (d ≡ to → ⊥) → f d ≡ with_offer rule f to (Some c) d
         other d ne = sym (cond-false (eqb d to) (lesser rule (f d) (Some c)) (f d) (ne_eqb d to ne))
 
-    module _ (laws : Laws rule) (c : C) (known' : ℕ) (w' : Waiting (Entry C)) (inside : to < length best)
-        (more : (k : ℕ) → holds known' k ≡ (eqb k to || holds known k)) (p : Pushed (entry_before rule.lower) (entry c to) w w')
+    module _ (laws : Laws rule) (c : C) (known' : ℕ) (w' : Waiting (Entry C) ranked) (inside : to < length best)
+        (more : (k : ℕ) → holds known' k ≡ (eqb k to || holds known k)) (p : Pushed (entry c to) w w')
         (news : (a : C) → f to ≡ Some a → rule.lower c a ≡ true) where
       abbrev g : ℕ → Option C
       g = costs_in rule (set best to c) known'
@@ -90,7 +90,6 @@ module _ {C : Type 0} (rule : Costs C) where
             past = λ k h. drop-set-lt k best to c (omega arith);
             waits = λ done q.
                 record {
-                  ordered = p.ordered q.ordered;
                   each = λ d b nd e. has_shuffled (queued w ++ entry c to ∷ []) (queued w') (entry b d) p.items (⊎_elim
                       (λ (s : d ≡ to). subst (ContainsAt (queued w ++ entry c to ∷ [])) (same_entry c b to d (some_inj c b (sym (here d s) ∙ e)) (sym s)) (has_push (queued w) (entry c to)))
                       (λ ne. has_append_left (queued w) (entry c to ∷ []) (entry b d) (q.each d b nd (sym (there d ne) ∙ e)))

@@ -7,14 +7,15 @@ use Rattle.routes.specs.Leasts.{lesser, joined}
 use Rattle.routes.specs.Network.{Network, Sound}
 use Rattle.routes.specs.Settling.{relaxed_by}
 use Rattle.waiting.specs.declared.list.Waiting.{Waiting}
+use Rattle.waiting.specs.declared.ranked.Ranked.{Ghosts}
 use Rattle.squares.specs.Known.{costs_in, with_offer}
 use Rattle.squares.proofs.Offers.{lesser_none}
 use Rattle.search.specs.Steps.{Step}
 use Rattle.search.proofs.Offers.{still}
 
 -- one step after another
-then : {C : Type 0} (rule : Costs C) (f g h : ℕ → Option C) (n n₁ n₂ m m₁ m₂ : ℕ)
-    (best best₁ best₂ : List C) (known known₁ known₂ : ℕ) (w w₁ w₂ : Waiting (Entry C)) →
+then : {C : Type 0} {ranked : Ghosts (Entry C)} (rule : Costs C) (f g h : ℕ → Option C) (n n₁ n₂ m m₁ m₂ : ℕ)
+    (best best₁ best₂ : List C) (known known₁ known₂ : ℕ) (w w₁ w₂ : Waiting (Entry C) ranked) →
     Step rule f n₁ m₁ best known w best₁ known₁ w₁ → Step rule g n₂ m₂ best₁ known₁ w₁ best₂ known₂ w₂ →
     ((d : ℕ) → g d ≡ h d) → n₁ ≤ n → n₂ ≤ n → m₁ + m₂ ≤ m → Step rule h n m best known w best₂ known₂ w₂
 then rule f g h n n₁ n₂ m m₁ m₂ best best₁ best₂ known known₁ known₂ w w₁ w₂ s t e l₁ l₂ l =
@@ -35,7 +36,7 @@ unlinked {C} N sound a b h = by (N.link a b) refl
     by None e = refl
     by (Some c) e = absurd (omega (arith, h, sound.to a b c e))
 
-module _ {C : Type 0} (N : Network C) (sound : Sound N) (from : ℕ) (cost : C) (best : List C) (known : ℕ) (w : Waiting (Entry C)) where
+module _ {C : Type 0} {ranked : Ghosts (Entry C)} (N : Network C) (sound : Sound N) (from : ℕ) (cost : C) (best : List C) (known : ℕ) (w : Waiting (Entry C) ranked) where
   abbrev rule : Costs C
   rule = N.rule
 
@@ -52,8 +53,8 @@ module _ {C : Type 0} (N : Network C) (sound : Sound N) (from : ℕ) (cost : C) 
   pub round_first : Step rule (up_to 0) 0 0 best known w best known w
   round_first = still rule best known w 0 (up_to 0) 0 0 (λ d. sym (cond-false (ltb d 0) (relaxed d) (f d) (le-ltb d 0 (omega arith))))
 
-  module _ (best₁ : List C) (known₁ : ℕ) (w₁ : Waiting (Entry C)) where
-    pub round_more : (to : ℕ) (o : Option C) (best₂ : List C) (known₂ : ℕ) (w₂ : Waiting (Entry C)) → Step rule (up_to to) to to best known w best₁ known₁ w₁ →
+  module _ (best₁ : List C) (known₁ : ℕ) (w₁ : Waiting (Entry C) ranked) where
+    pub round_more : (to : ℕ) (o : Option C) (best₂ : List C) (known₂ : ℕ) (w₂ : Waiting (Entry C) ranked) → Step rule (up_to to) to to best known w best₁ known₁ w₁ →
         o ≡ joined rule (Some cost) (N.link from to) →
         Step rule (with_offer rule (costs_in rule best₁ known₁) to o) (to + 1) 1 best₁ known₁ w₁ best₂ known₂ w₂ →
         Step rule (up_to (to + 1)) (to + 1) (to + 1) best known w best₂ known₂ w₂

@@ -2,15 +2,15 @@
 use Rattle.std.specs.Prelude.{◌≡◌, ℕ, ◌+◌, ◌*◌, ◌<◌, ◌≤◌, Bool, false, List, [], ◌∷◌, ◌++◌, length, drop, Some, Option, slice_index_or}
 use Rattle.std.specs.List.{ContainsAt, AllByRecursion}
 use Rattle.costs.specs.Costs.{Costs, Joinable}
-use Rattle.entries.specs.Entry.{entry_before}
 use Rattle.entries.specs.declared.Entry.{Entry}
 use Rattle.masks.specs.Sets.{holds}
 use Rattle.routes.specs.Network.{Network}
 use Rattle.routes.specs.Settling.{also}
 use Rattle.squares.specs.Known.{costs_in}
 use Rattle.squares.specs.declared.found.Found.{Found}
-use Rattle.waiting.specs.Waiting.{memory, queued, InOrder}
+use Rattle.waiting.specs.Waiting.{memory, queued}
 use Rattle.waiting.specs.declared.list.Waiting.{Waiting}
+use Rattle.waiting.specs.declared.ranked.Ranked.{Ghosts}
 
 -- a search from a router of the network, with a place for the cost of each router and one to wait for each pair
 pub record Ready {C : Type 0} (N : Network C) (root : ℕ) (best : List C) (waiting : List (Entry C)) : Type 0 where
@@ -30,17 +30,16 @@ CanGoOn {C} rule cost link = (l : C) → link ≡ Some l → Joinable rule cost 
 abbrev pub AboveKnown : {C : Type 0} → Costs C → (ℕ → Option C) → Entry C → Type 0
 AboveKnown {C} rule f e = (a : C) × (f e.router ≡ Some a) × (rule.lower e.cost a ≡ false)
 
--- The waiting list of a search with the known costs f: its lowest entry comes out first, each router that is not done waits at
--- its known cost, and no entry is below the known cost of its router.
-pub record Waits {C : Type 0} (rule : Costs C) (done : ℕ → Bool) (f : ℕ → Option C) (w : Waiting (Entry C)) : Type 0 where
-  pub ordered : InOrder (entry_before rule.lower) w
+-- The waiting list of a search with the known costs f: each router that is not done waits at its known cost, and no entry is below
+-- the known cost of its router.
+pub record Waits {C : Type 0} {ranked : Ghosts (Entry C)} (rule : Costs C) (done : ℕ → Bool) (f : ℕ → Option C) (w : Waiting (Entry C) ranked) : Type 0 where
   pub each : (d : ℕ) (b : C) → done d ≡ false → f d ≡ Some b → ContainsAt (queued w) (entry b d)
   pub within : AllByRecursion (AboveKnown rule f) (queued w)
 
 -- A step after which the known costs are f': it writes places below n, and adds at most m entries to the waiting list, which stays
 -- that of the search. A router that is still unknown has what the memory held.
-pub record Step {C : Type 0} (rule : Costs C) (f' : ℕ → Option C) (n m : ℕ)
-    (best : List C) (known : ℕ) (w : Waiting (Entry C)) (best' : List C) (known' : ℕ) (w' : Waiting (Entry C)) : Type 0 where
+pub record Step {C : Type 0} {ranked : Ghosts (Entry C)} (rule : Costs C) (f' : ℕ → Option C) (n m : ℕ)
+    (best : List C) (known : ℕ) (w : Waiting (Entry C) ranked) (best' : List C) (known' : ℕ) (w' : Waiting (Entry C) ranked) : Type 0 where
   pub costs : (d : ℕ) → costs_in rule best' known' d ≡ f' d
   pub absent : (d : ℕ) → holds known' d ≡ false → (holds known d ≡ false) × (slice_index_or best' d rule.zero ≡ slice_index_or best d rule.zero)
   pub past : (k : ℕ) → n ≤ k → drop k best' ≡ drop k best

@@ -31,7 +31,9 @@ fn further<C: Cost>(cost: C, link: Option<C>) -> Option<C>
 
 // Offers a cost to a router, which takes it and waits at it where it had none or a higher one.
 // It answers the routers with a cost.
-// kept: these are a mask beside `best`, since the handed memory is of plain costs: no heap, fixed memory.
+// kept: these are a mask beside `best`, since the handed memory is of plain costs: no heap, fixed memory. A `Row` of settling is no
+// plainer here: what the memory holds for a router without a route is part of what the search promises, so its steps (`Step`) name
+// the memory and the mask apart.
 fn offer<C: Cost>(
     best: &mut [C],
     known: u32,

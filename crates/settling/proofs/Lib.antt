@@ -1,3 +1,5 @@
+pub mod Memory
+pub mod Fills
 pub mod Trees
 pub mod Orders
 pub mod Offers

@@ -1,7 +1,5 @@
 // The page of one root, worked out from the best costs that a search left: fathers, tree hops, and the passes of the rest costs.
 #![tactic(auto)]
-// kept: a row that the caller lends and the mask of the routers with a cost in it are two parameters. A struct of both is no plainer:
-// it holds a `&mut`, so each call would make it anew, and the clauses speak of the row and of the mask that the call answers.
 
 ghost use Rattle.std.specs.Prelude.{◌≡◌, ℕ, ◌<◌, ◌≤◌, true, ◌≢◌, map, length, get_or, is_some, Some, None, Option, slice_index_or};
 ghost use Rattle.std.specs.List.{range_with_len};
@@ -12,20 +10,25 @@ ghost use Rattle.routes.specs.Tree.{lowest_father, fall};
 ghost use Rattle.squares.specs.Found.{Searched};
 ghost use Rattle.squares.specs.Meaning.{network_of};
 ghost use Rattle.squares.specs.Known.{costs_in, with_offer};
+ghost use Rattle.settling.specs.Costs.{costs_of, SameMemory};
 ghost use Rattle.settling.specs.Trees.{CanJoin, Shorts, passes, father_by, hop_by, Hops, FathersFirst};
 ghost use Rattle.settling.specs.Rows.{own_cost, ByFather, ToFather, TreeKnown, HopsKnown, by_father, to_father};
 
 use costs::Cost;
-use masks::{has, with};
+use masks::has;
 use squares::{Found, LinkCosts};
 
+pub mod row;
 mod starts;
 pub mod tree;
 
+pub use row::Row;
 pub use starts::rest_row;
 pub use tree::Tree;
 
 // The cost that a memory holds for a router of the mask.
+// kept: best costs that are only read and their mask, `known` of what the search found, are two parameters, here and in the crate
+// page_settling. A `Row` holds a `&mut`, which nobody has here, and a second struct would be its twin for a `&`.
 pub(crate) fn cost_of<C: Cost>(best: &[C], known: u32, router: usize) -> Option<C>
     requires { router < length best.now }
     ensures { result ≡ costs_in C.Cost.costs best.now known router }
@@ -97,8 +100,10 @@ pub fn fathers<C: Cost, L: LinkCosts<C>>(
     ensures { result ≡ map (lowest_father (network_of C.Cost.costs L.LinkCosts links.now) root) (range_with_len 0 32) }
 {
     let mut fathers = [None; 32];
-    for d in 0..links.count() {
-        fathers[d] = father_of(links, best, found.known, d);
+    for (d, father) in fathers.iter_mut().enumerate() {
+        if d < links.count() {
+            *father = father_of(links, best, found.known, d);
+        }
     }
     fathers
 }
@@ -127,7 +132,7 @@ pub fn tree_hops(fathers: &[Option<usize>; 32], root: usize, found: &Found) -> [
 {
     let mut hops = [None; 32];
     for &router in found.order.as_slice() {
-        let d = router as usize;
+        let d = usize::from(router);
         hops[d] = hop_of(fathers, &hops, root, d);
     }
     hops
@@ -151,104 +156,61 @@ pub fn tree_of<C: Cost, L: LinkCosts<C>>(links: &L, root: usize, best: &[C], fou
     }
 }
 
-// Offers a cost to a router of a row, which takes it where it had none or a higher one.
-pub(crate) fn take_offer<C: Cost>(row: &mut [C], reached: u32, to: usize, offered: Option<C>) -> u32
-    requires { (to < length row.old) × (to < 32) }
-    ensures costs { (d : ℕ) → costs_in C.Cost.costs row.new result d ≡ with_offer C.Cost.costs (costs_in C.Cost.costs row.old reached) to offered d }
-    ensures others { (k : ℕ) → k ≢ to → slice_index_or row.new k C.Cost.costs.zero ≡ slice_index_or row.old k C.Cost.costs.zero }
-    ensures size { length row.new ≡ length row.old }
-{
-    let Some(cost) = offered else {
-        return reached;
-    };
-    if has(reached, to) && !cost.lower(row[to]) {
-        return reached;
-    }
-    row[to] = cost;
-    with(reached, to)
-}
-
 // The cost that the way down from its father gives a router.
-fn way_down<C: Cost, L: LinkCosts<C>>(
-    links: &L,
-    tree: &Tree,
-    row: &[C],
-    reached: u32,
-    to: usize,
-) -> Option<C>
-    requires inside { (to < L.LinkCosts.routers links.now) × (L.LinkCosts.routers links.now ≤ length row.now) }
-    requires father { ByFather (network_of C.Cost.costs L.LinkCosts links.now) tree.now.father (costs_in C.Cost.costs row.now reached) to }
-    ensures { result ≡ by_father (network_of C.Cost.costs L.LinkCosts links.now) (slice_index_or tree.now.father to None) (costs_in C.Cost.costs row.now reached) to }
+fn way_down<C: Cost, L: LinkCosts<C>>(links: &L, tree: &Tree, row: &Row<C>, to: usize) -> Option<C>
+    requires inside { (to < L.LinkCosts.routers links.now) × (L.LinkCosts.routers links.now ≤ length row.now.costs.now) }
+    requires father { ByFather (network_of C.Cost.costs L.LinkCosts links.now) tree.now.father (costs_of C.Cost.costs row.now) to }
+    ensures { result ≡ by_father (network_of C.Cost.costs L.LinkCosts links.now) (slice_index_or tree.now.father to None) (costs_of C.Cost.costs row.now) to }
 {
     let p = tree.father[to]?;
-    onward(cost_of(row, reached, p), links.link(p, to))
+    onward(row.get(p), links.link(p, to))
 }
 
 // The descending pass of the rest costs of a neighbour, along the sequence: from the costs of the best climbs to the rest costs.
-pub fn descend<C: Cost, L: LinkCosts<C>>(
-    links: &L,
-    tree: &Tree,
-    neighbour: usize,
-    row: &mut [C],
-    mut reached: u32,
-) -> u32
-    requires places { L.LinkCosts.routers links.now ≤ length row.old }
+pub fn descend<C: Cost, L: LinkCosts<C>>(links: &L, tree: &Tree, neighbour: usize, row: &mut Row<C>)
+    requires places { L.LinkCosts.routers links.now ≤ length row.old.costs.now }
     requires tree { TreeKnown (network_of C.Cost.costs L.LinkCosts links.now) tree.now }
-    requires climbs { (d : ℕ) → d < L.LinkCosts.routers links.now → costs_in C.Cost.costs row.old reached d ≡ climbed (network_of C.Cost.costs L.LinkCosts links.now) (lowest_father (network_of C.Cost.costs L.LinkCosts links.now)) tree.now.root neighbour d }
-    ensures costs { (d : ℕ) → d < L.LinkCosts.routers links.now → costs_in C.Cost.costs row.new result d ≡ rest (network_of C.Cost.costs L.LinkCosts links.now) (lowest_father (network_of C.Cost.costs L.LinkCosts links.now)) tree.now.root neighbour d }
-    ensures past { (d : ℕ) → L.LinkCosts.routers links.now ≤ d → costs_in C.Cost.costs row.new result d ≡ costs_in C.Cost.costs row.old reached d }
-    ensures size { length row.new ≡ length row.old }
+    requires climbs { (d : ℕ) → d < L.LinkCosts.routers links.now → costs_of C.Cost.costs row.old d ≡ climbed (network_of C.Cost.costs L.LinkCosts links.now) (lowest_father (network_of C.Cost.costs L.LinkCosts links.now)) tree.now.root neighbour d }
+    ensures costs { (d : ℕ) → d < L.LinkCosts.routers links.now → costs_of C.Cost.costs row.new d ≡ rest (network_of C.Cost.costs L.LinkCosts links.now) (lowest_father (network_of C.Cost.costs L.LinkCosts links.now)) tree.now.root neighbour d }
+    ensures past { (d : ℕ) → L.LinkCosts.routers links.now ≤ d → costs_of C.Cost.costs row.new d ≡ costs_of C.Cost.costs row.old d }
+    ensures memory { SameMemory row.old row.new }
 {
     for &router in tree.found.order.as_slice() {
-        let to = router as usize;
-        let way = way_down(links, tree, row, reached, to);
-        reached = take_offer(row, reached, to, way);
+        let to = usize::from(router);
+        let way = way_down(links, tree, row, to);
+        row.offer(to, way);
     }
-    reached
 }
 
 // Offers the father of a router the way up from it, but never the root.
-fn climb_from<C: Cost, L: LinkCosts<C>>(
-    links: &L,
-    tree: &Tree,
-    row: &mut [C],
-    reached: u32,
-    from: usize,
-) -> u32
-    requires inside { (from < L.LinkCosts.routers links.now) × (L.LinkCosts.routers links.now ≤ length row.old) }
-    requires father { ToFather (network_of C.Cost.costs L.LinkCosts links.now) tree.now.father (costs_in C.Cost.costs row.old reached) from }
-    ensures costs { (d : ℕ) → costs_in C.Cost.costs row.new result d ≡ to_father (network_of C.Cost.costs L.LinkCosts links.now) tree.now.root (slice_index_or tree.now.father from None) (costs_in C.Cost.costs row.old reached) from d }
-    ensures size { length row.new ≡ length row.old }
+fn climb_from<C: Cost, L: LinkCosts<C>>(links: &L, tree: &Tree, row: &mut Row<C>, from: usize)
+    requires inside { (from < L.LinkCosts.routers links.now) × (L.LinkCosts.routers links.now ≤ length row.old.costs.now) }
+    requires father { ToFather (network_of C.Cost.costs L.LinkCosts links.now) tree.now.father (costs_of C.Cost.costs row.old) from }
+    ensures costs { (d : ℕ) → costs_of C.Cost.costs row.new d ≡ to_father (network_of C.Cost.costs L.LinkCosts links.now) tree.now.root (slice_index_or tree.now.father from None) (costs_of C.Cost.costs row.old) from d }
+    ensures memory { SameMemory row.old row.new }
 {
     let Some(p) = tree.father[from] else {
-        return reached;
+        return;
     };
     if p == tree.root {
-        return reached;
+        return;
     }
-    let way = onward(cost_of(row, reached, from), links.link(from, p));
-    take_offer(row, reached, p, way)
+    let way = onward(row.get(from), links.link(from, p));
+    row.offer(p, way);
 }
 
 // The climbing pass of the rest costs of a neighbour, against the sequence: from the costs of its starts to those of the best climbs.
-pub fn climb<C: Cost, L: LinkCosts<C>>(
-    links: &L,
-    tree: &Tree,
-    neighbour: usize,
-    row: &mut [C],
-    mut reached: u32,
-) -> u32
-    requires places { L.LinkCosts.routers links.now ≤ length row.old }
+pub fn climb<C: Cost, L: LinkCosts<C>>(links: &L, tree: &Tree, neighbour: usize, row: &mut Row<C>)
+    requires places { L.LinkCosts.routers links.now ≤ length row.old.costs.now }
     requires tree { TreeKnown (network_of C.Cost.costs L.LinkCosts links.now) tree.now }
-    requires starts { (d : ℕ) → costs_in C.Cost.costs row.old reached d ≡ started (network_of C.Cost.costs L.LinkCosts links.now) (lowest_father (network_of C.Cost.costs L.LinkCosts links.now)) tree.now.root neighbour d }
-    ensures costs { (d : ℕ) → costs_in C.Cost.costs row.new result d ≡ climbed (network_of C.Cost.costs L.LinkCosts links.now) (lowest_father (network_of C.Cost.costs L.LinkCosts links.now)) tree.now.root neighbour d }
-    ensures size { length row.new ≡ length row.old }
+    requires starts { (d : ℕ) → costs_of C.Cost.costs row.old d ≡ started (network_of C.Cost.costs L.LinkCosts links.now) (lowest_father (network_of C.Cost.costs L.LinkCosts links.now)) tree.now.root neighbour d }
+    ensures costs { (d : ℕ) → costs_of C.Cost.costs row.new d ≡ climbed (network_of C.Cost.costs L.LinkCosts links.now) (lowest_father (network_of C.Cost.costs L.LinkCosts links.now)) tree.now.root neighbour d }
+    ensures memory { SameMemory row.old row.new }
 {
     for &router in tree.found.order.as_slice().iter().rev() {
-        let from = router as usize;
-        reached = climb_from(links, tree, row, reached, from);
+        let from = usize::from(router);
+        climb_from(links, tree, row, from);
     }
-    reached
 }
 
 // The cost of the tree path from the neighbour down to a router, by that of its father.
@@ -256,38 +218,39 @@ fn own_cost<C: Cost, L: LinkCosts<C>>(
     links: &L,
     tree: &Tree,
     neighbour: usize,
-    row: &[C],
-    reached: u32,
+    row: &Row<C>,
     at: usize,
 ) -> Option<C>
-    requires inside { (at < L.LinkCosts.routers links.now) × (L.LinkCosts.routers links.now ≤ length row.now) }
-    requires father { ByFather (network_of C.Cost.costs L.LinkCosts links.now) tree.now.father (costs_in C.Cost.costs row.now reached) at }
-    ensures { result ≡ own_cost (network_of C.Cost.costs L.LinkCosts links.now) neighbour (slice_index_or tree.now.father at None) (costs_in C.Cost.costs row.now reached) at }
+    requires inside { (at < L.LinkCosts.routers links.now) × (L.LinkCosts.routers links.now ≤ length row.now.costs.now) }
+    requires father { ByFather (network_of C.Cost.costs L.LinkCosts links.now) tree.now.father (costs_of C.Cost.costs row.now) at }
+    ensures { result ≡ own_cost (network_of C.Cost.costs L.LinkCosts links.now) neighbour (slice_index_or tree.now.father at None) (costs_of C.Cost.costs row.now) at }
 {
     if neighbour == at {
         return Some(C::zero());
     }
-    way_down(links, tree, row, reached, at)
+    way_down(links, tree, row, at)
 }
 
 // The costs of the tree paths from a neighbour down to each router, along the sequence.
+// kept: `descend` has the same loop with another offer. One function of both would take the offer as a closure whose trait names
+// its meaning, or start here from the zero cost at the neighbour and promise every solution of the offers' equation. Either asks a
+// definition more than the four lines of the loop, and the two still end in different costs, each by its own proof.
 pub fn own_branch<C: Cost, L: LinkCosts<C>>(
     links: &L,
     tree: &Tree,
     neighbour: usize,
-    row: &mut [C],
-) -> u32
-    requires places { L.LinkCosts.routers links.now ≤ length row.old }
+    row: &mut Row<C>,
+)
+    requires places { L.LinkCosts.routers links.now ≤ length row.old.costs.now }
     requires tree { TreeKnown (network_of C.Cost.costs L.LinkCosts links.now) tree.now }
     requires linked { is_some ((network_of C.Cost.costs L.LinkCosts links.now).link tree.now.root neighbour) ≡ true }
-    ensures costs { (d : ℕ) → d < L.LinkCosts.routers links.now → costs_in C.Cost.costs row.new result d ≡ fall (network_of C.Cost.costs L.LinkCosts links.now) (lowest_father (network_of C.Cost.costs L.LinkCosts links.now)) tree.now.root neighbour d }
-    ensures size { length row.new ≡ length row.old }
+    ensures costs { (d : ℕ) → d < L.LinkCosts.routers links.now → costs_of C.Cost.costs row.new d ≡ fall (network_of C.Cost.costs L.LinkCosts links.now) (lowest_father (network_of C.Cost.costs L.LinkCosts links.now)) tree.now.root neighbour d }
+    ensures memory { SameMemory row.old row.new }
 {
-    let mut reached = 0;
+    row.reached = 0;
     for &router in tree.found.order.as_slice() {
-        let to = router as usize;
-        let cost = own_cost(links, tree, neighbour, row, reached, to);
-        reached = take_offer(row, reached, to, cost);
+        let to = usize::from(router);
+        let cost = own_cost(links, tree, neighbour, row, to);
+        row.offer(to, cost);
     }
-    reached
 }

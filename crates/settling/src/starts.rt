@@ -7,11 +7,12 @@ ghost use Rattle.routes.specs.Transverse.{rest};
 ghost use Rattle.routes.specs.Tree.{lowest_father, fall};
 ghost use Rattle.squares.specs.Meaning.{network_of};
 ghost use Rattle.squares.specs.Known.{costs_in, with_offer};
+ghost use Rattle.settling.specs.Costs.{costs_of, SameMemory};
 ghost use Rattle.settling.specs.Trees.{CanJoin};
 ghost use Rattle.settling.specs.Rows.{TreeKnown, HopsKnown, other_hop, crossing};
 
 use crate::tree::Tree;
-use crate::{climb, cost_of, descend, onward, own_branch, take_offer};
+use crate::{Row, climb, descend, onward, own_branch};
 use costs::Cost;
 use masks::with;
 use squares::LinkCosts;
@@ -23,21 +24,18 @@ fn start_at<C: Cost, L: LinkCosts<C>>(
     neighbour: usize,
     from: usize,
     cost: Option<C>,
-    row: &mut [C],
-    reached: u32,
+    row: &mut Row<C>,
     to: usize,
-) -> u32
-    requires inside { (from < L.LinkCosts.routers links.now) × (to < L.LinkCosts.routers links.now) × (L.LinkCosts.routers links.now ≤ length row.old) }
+)
+    requires inside { (from < L.LinkCosts.routers links.now) × (to < L.LinkCosts.routers links.now) × (L.LinkCosts.routers links.now ≤ length row.old.costs.now) }
     requires joins { CanJoin C.Cost.costs cost ((network_of C.Cost.costs L.LinkCosts links.now).link from to) }
-    ensures costs { (d : ℕ) → costs_in C.Cost.costs row.new result d ≡ with_offer C.Cost.costs (costs_in C.Cost.costs row.old reached) to (crossing (network_of C.Cost.costs L.LinkCosts links.now) neighbour (slice_index_or tree.now.hop to None) from cost to) d }
-    ensures kept { (k : ℕ) → other_hop neighbour (slice_index_or tree.now.hop k None) ≡ false → slice_index_or row.new k C.Cost.costs.zero ≡ slice_index_or row.old k C.Cost.costs.zero }
-    ensures size { length row.new ≡ length row.old }
+    ensures costs { (d : ℕ) → costs_of C.Cost.costs row.new d ≡ with_offer C.Cost.costs (costs_of C.Cost.costs row.old) to (crossing (network_of C.Cost.costs L.LinkCosts links.now) neighbour (slice_index_or tree.now.hop to None) from cost to) d }
+    ensures kept { (k : ℕ) → other_hop neighbour (slice_index_or tree.now.hop k None) ≡ false → slice_index_or row.new.costs.now k C.Cost.costs.zero ≡ slice_index_or row.old.costs.now k C.Cost.costs.zero }
+    ensures memory { SameMemory row.old row.new }
 {
     if tree.in_other_branch(neighbour, to) {
         let way = onward(cost, links.link(from, to));
-        take_offer(row, reached, to, way)
-    } else {
-        reached
+        row.offer(to, way);
     }
 }
 
@@ -48,64 +46,56 @@ fn start_from<C: Cost, L: LinkCosts<C>>(
     neighbour: usize,
     from: usize,
     cost: Option<C>,
-    row: &mut [C],
-    mut reached: u32,
-) -> u32
-    requires inside { (from < L.LinkCosts.routers links.now) × (L.LinkCosts.routers links.now ≤ length row.old) }
+    row: &mut Row<C>,
+)
+    requires inside { (from < L.LinkCosts.routers links.now) × (L.LinkCosts.routers links.now ≤ length row.old.costs.now) }
     requires joins { (y : ℕ) → CanJoin C.Cost.costs cost ((network_of C.Cost.costs L.LinkCosts links.now).link from y) }
-    ensures costs { (d : ℕ) → costs_in C.Cost.costs row.new result d ≡ lesser C.Cost.costs (costs_in C.Cost.costs row.old reached d) (crossing (network_of C.Cost.costs L.LinkCosts links.now) neighbour (slice_index_or tree.now.hop d None) from cost d) }
-    ensures kept { (k : ℕ) → other_hop neighbour (slice_index_or tree.now.hop k None) ≡ false → slice_index_or row.new k C.Cost.costs.zero ≡ slice_index_or row.old k C.Cost.costs.zero }
-    ensures size { length row.new ≡ length row.old }
+    ensures costs { (d : ℕ) → costs_of C.Cost.costs row.new d ≡ lesser C.Cost.costs (costs_of C.Cost.costs row.old d) (crossing (network_of C.Cost.costs L.LinkCosts links.now) neighbour (slice_index_or tree.now.hop d None) from cost d) }
+    ensures kept { (k : ℕ) → other_hop neighbour (slice_index_or tree.now.hop k None) ≡ false → slice_index_or row.new.costs.now k C.Cost.costs.zero ≡ slice_index_or row.old.costs.now k C.Cost.costs.zero }
+    ensures memory { SameMemory row.old row.new }
 {
     for to in 0..links.count() {
-        reached = start_at(links, tree, neighbour, from, cost, row, reached, to);
+        start_at(links, tree, neighbour, from, cost, row, to);
     }
-    reached
 }
 
-// The starts of a neighbour: at itself, and over each link from its branch into another. By the mask `below` the row comes with
-// the costs of the tree paths down the branch, the zero cost at the neighbour; the starts take the places of other branches.
-fn all_starts<C: Cost, L: LinkCosts<C>>(
-    links: &L,
-    tree: &Tree,
-    neighbour: usize,
-    row: &mut [C],
-    below: u32,
-) -> u32
-    requires places { L.LinkCosts.routers links.now ≤ length row.old }
+// The starts of a neighbour: at itself, and over each link from its branch into another. The row comes with the costs of
+// the tree paths down the branch, the zero cost at the neighbour; the starts take the places of other branches.
+fn all_starts<C: Cost, L: LinkCosts<C>>(links: &L, tree: &Tree, neighbour: usize, row: &mut Row<C>)
+    requires places { L.LinkCosts.routers links.now ≤ length row.old.costs.now }
     requires hops { HopsKnown (network_of C.Cost.costs L.LinkCosts links.now) tree.now }
     requires linked { is_some ((network_of C.Cost.costs L.LinkCosts links.now).link tree.now.root neighbour) ≡ true }
-    requires falls { (d : ℕ) → d < L.LinkCosts.routers links.now → costs_in C.Cost.costs row.old below d ≡ fall (network_of C.Cost.costs L.LinkCosts links.now) (lowest_father (network_of C.Cost.costs L.LinkCosts links.now)) tree.now.root neighbour d }
-    ensures costs { (d : ℕ) → costs_in C.Cost.costs row.new result d ≡ started (network_of C.Cost.costs L.LinkCosts links.now) (lowest_father (network_of C.Cost.costs L.LinkCosts links.now)) tree.now.root neighbour d }
-    ensures size { length row.new ≡ length row.old }
+    requires falls { (d : ℕ) → d < L.LinkCosts.routers links.now → costs_of C.Cost.costs row.old d ≡ fall (network_of C.Cost.costs L.LinkCosts links.now) (lowest_father (network_of C.Cost.costs L.LinkCosts links.now)) tree.now.root neighbour d }
+    ensures costs { (d : ℕ) → costs_of C.Cost.costs row.new d ≡ started (network_of C.Cost.costs L.LinkCosts links.now) (lowest_father (network_of C.Cost.costs L.LinkCosts links.now)) tree.now.root neighbour d }
+    ensures memory { SameMemory row.old row.new }
 {
-    let mut reached = with(0, neighbour);
+    let below = row.reached;
+    row.reached = with(0, neighbour);
     for from in 0..links.count() {
         if tree.in_branch(neighbour, from) {
-            let cost = cost_of(row, below, from);
-            reached = start_from(links, tree, neighbour, from, cost, row, reached);
+            let cost = row.among(below, from);
+            start_from(links, tree, neighbour, from, cost, row);
         }
     }
-    reached
 }
 
-// The rest costs of a neighbour of the root: the row has them for the routers of the mask that it answers.
+// The rest costs of a neighbour of the root: they are what the row then holds, in the memory that it had.
 pub fn rest_row<C: Cost, L: LinkCosts<C>>(
     links: &L,
     tree: &Tree,
     neighbour: usize,
-    row: &mut [C],
-) -> u32
-    requires places { L.LinkCosts.routers links.now ≤ length row.old }
+    row: &mut Row<C>,
+)
+    requires places { L.LinkCosts.routers links.now ≤ length row.old.costs.now }
     requires tree { TreeKnown (network_of C.Cost.costs L.LinkCosts links.now) tree.now }
     requires hops { HopsKnown (network_of C.Cost.costs L.LinkCosts links.now) tree.now }
     requires linked { is_some ((network_of C.Cost.costs L.LinkCosts links.now).link tree.now.root neighbour) ≡ true }
-    ensures costs { (d : ℕ) → d < L.LinkCosts.routers links.now → costs_in C.Cost.costs row.new result d ≡ rest (network_of C.Cost.costs L.LinkCosts links.now) (lowest_father (network_of C.Cost.costs L.LinkCosts links.now)) tree.now.root neighbour d }
-    ensures past { (d : ℕ) → L.LinkCosts.routers links.now ≤ d → holds result d ≡ false }
-    ensures size { length row.new ≡ length row.old }
+    ensures costs { (d : ℕ) → d < L.LinkCosts.routers links.now → costs_of C.Cost.costs row.new d ≡ rest (network_of C.Cost.costs L.LinkCosts links.now) (lowest_father (network_of C.Cost.costs L.LinkCosts links.now)) tree.now.root neighbour d }
+    ensures past { (d : ℕ) → L.LinkCosts.routers links.now ≤ d → holds row.new.reached d ≡ false }
+    ensures memory { SameMemory row.old row.new }
 {
-    let below = own_branch(links, tree, neighbour, row);
-    let begun = all_starts(links, tree, neighbour, row, below);
-    let climbed = climb(links, tree, neighbour, row, begun);
-    descend(links, tree, neighbour, row, climbed)
+    own_branch(links, tree, neighbour, row);
+    all_starts(links, tree, neighbour, row);
+    climb(links, tree, neighbour, row);
+    descend(links, tree, neighbour, row);
 }

@@ -6,6 +6,10 @@ ghost use Rattle.settling.specs.Rows.{other_hop};
 use squares::Found;
 
 // The father and the tree hop of each router on the page of a root, and what the search from there found.
+// kept: two arrays, since the tree hops are worked out from the whole array of fathers. That the fathers and the sequence are those
+// of the links (`TreeKnown`) is asked by each pass and is no ghost field: it names the place of each router in the sequence,
+// which is data and no fact, and would have to be hidden there and found again in each proof. So links, tree and neighbour stay
+// three parameters of the passes.
 #[derive(Clone, Drop)]
 pub struct Tree {
     pub root: usize,
@@ -24,6 +28,7 @@ impl Tree {
     }
 
     // Whether a router is in another branch than that of the neighbour.
+    // kept: no negation of `in_branch`, since the root and a router without a route are in no branch at all.
     pub(crate) fn in_other_branch(&self, neighbour: usize, router: usize) -> bool
         requires { router < 32 }
         ensures { result ≡ other_hop neighbour (slice_index_or self.now.hop router None) }

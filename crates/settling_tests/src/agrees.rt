@@ -1,29 +1,6 @@
 use crate::net_k::{over_costs, over_numbers};
 use costs::PathCost;
 use entries::Entry;
-use pagetable::Page;
-use std::process::Abort;
-
-// The pages are equal.
-fn same_page(rt: &impl Abort, a: &Page, b: &Page) {
-    assert_eq!(rt; a.father, b.father);
-    assert_eq!(rt; a.hop, b.hop);
-    assert_eq!(rt; a.candidates, b.candidates);
-    assert_eq!(rt; a.valid, b.valid);
-}
-
-// The costs have these hops and this width.
-fn is(rt: &impl Abort, cost: PathCost, hops: u32, width: u32) {
-    assert_eq!(rt; (cost.hops, cost.width), (hops, width));
-}
-
-// The costs are equal, one by one.
-fn same_costs(rt: &impl Abort, a: &[PathCost], b: &[PathCost]) {
-    assert_eq!(rt; a.len(), b.len());
-    for (x, y) in a.iter().zip(b) {
-        is(rt, *x, y.hops, y.width);
-    }
-}
 
 #[test]
 fn net_k_under_sum(rt: HostRuntime) {
@@ -35,7 +12,7 @@ fn net_k_under_sum(rt: HostRuntime) {
     let mut best_again = [9; 7];
     let mut rest_again = [9; 28];
     let again = over_costs(&mut costs, &mut best_again, &mut rest_again, &mut waiting);
-    same_page(&rt, &page, &again);
+    assert_eq!(&rt; page, again);
     assert_eq!(&rt; best, best_again);
     assert_eq!(&rt; rest, rest_again);
     assert_eq!(&rt; (page.hop[3], page.valid[3]), (Some(1), 0b110));
@@ -58,10 +35,10 @@ fn net_k_under_hops_width(rt: HostRuntime) {
     let mut best_again = [none; 5];
     let mut rest_again = [none; 25];
     let again = over_costs(&mut costs, &mut best_again, &mut rest_again, &mut waiting);
-    same_page(&rt, &page, &again);
-    same_costs(&rt, &best, &best_again);
-    same_costs(&rt, &rest, &rest_again);
+    assert_eq!(&rt; page, again);
+    assert_eq!(&rt; best, best_again);
+    assert_eq!(&rt; rest, rest_again);
     assert_eq!(&rt; (page.hop[3], page.valid[3]), (Some(1), 0b110));
-    is(&rt, best[3], 2, 1);
-    is(&rt, rest[13], 1, 1);
+    assert_eq!(&rt; best[3], PathCost { hops: 2, width: 1 });
+    assert_eq!(&rt; rest[13], PathCost { hops: 1, width: 1 });
 }

@@ -1,5 +1,5 @@
 ghost use Rattle.std.specs.Prelude.{◌≡◌, ◌≤◌, length, None, slice_index_or};
-ghost use Rattle.squares.specs.Squares.{LinkCosts};
+ghost use Rattle.squares.specs.Squares.{EachRead};
 
 use costs::Cost;
 use entries::Entry;
@@ -25,10 +25,11 @@ pub(crate) fn over_numbers<C: Cost>(
 }
 
 // Reads the costs of the links.
+// kept: by places, as the contract speaks of places: the square of costs asks that each was read from some number.
 fn read_all<C: Cost>(costs: &mut [Option<C>])
     requires { length costs.old ≡ 25 }
     ensures size { length costs.new ≡ 25 }
-    ensures costs { LinkCosts C.Cost.costs (λ i. slice_index_or costs.new i None) }
+    ensures costs { EachRead C.Cost.costs (λ i. slice_index_or costs.new i None) }
 {
     for i in 0..25 {
         costs[i] = C::read(NUMBERS[i]);

@@ -1,11 +1,13 @@
 ghost use Rattle.std.specs.Prelude.{◌≡◌, ◌*◌, ◌<◌, ◌≤◌, length, None, slice_index_or};
-ghost use Rattle.squares.specs.Squares.{LinkCosts, Square, matrix, matrix_sound};
+ghost use Rattle.squares.specs.Squares.{EachRead, Square, matrix, matrix_sound};
 
 use crate::link_costs::LinkCosts;
 use costs::Cost;
 
 // A square of link costs: that from one router to another at place from * count + to. What stands at the places of a router and
 // itself does not count.
+// kept: a count beside the places, since the caller hands them and they may be more; and a square like that of numbers, since the
+// two differ in what a place says of a link, which is what the trait is for.
 #[derive(Drop)]
 pub struct CostSquare<'a, C: Cost> {
     places: &'a [Option<C>],
@@ -13,7 +15,7 @@ pub struct CostSquare<'a, C: Cost> {
     ghost few: { count ≤ 32 },
     ghost full: { count * count ≤ length places.now },
     // the numbers that they are read from are no part of the square
-    ghost link_costs: { ∥ LinkCosts C.Cost.costs (λ i. slice_index_or places.now i None) ∥₁ },
+    ghost link_costs: { ∥ EachRead C.Cost.costs (λ i. slice_index_or places.now i None) ∥₁ },
 }
 
 impl<'a, C: Cost> CostSquare<'a, C> {
@@ -46,7 +48,7 @@ impl<'a, C: Cost> LinkCosts<C> for CostSquare<'a, C> {
     }
 }
 
-// What stands at a place. At a field of a struct nothing says that the place's offset fits; at a parameter it is known.
+// What stands at a place. At a field of a generic element type nothing says that the place's offset fits; at a parameter it is known.
 fn cost_at<C: Cost>(places: &[Option<C>], place: usize) -> Option<C>
     requires { place < length places.now }
     ensures { result ≡ slice_index_or places.now place None }

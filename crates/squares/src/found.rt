@@ -1,6 +1,7 @@
 use arrayvec::ArrayVec;
 
 // The routers that a search found a route to, as a set and in the order in which they were done.
+// kept: a set beside the sequence of the same routers, since a set is tested at once and only a sequence has an order.
 #[derive(Clone, Drop)]
 pub struct Found {
     pub known: u32,

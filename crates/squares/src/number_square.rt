@@ -6,6 +6,7 @@ use costs::Cost;
 
 // A square of link numbers: that from one router to another at place from * count + to, and 0 where there is no link. The rule
 // reads them.
+// kept: a count beside the places, since the caller hands them and they may be more.
 #[derive(Drop)]
 pub struct NumberSquare<'a> {
     places: &'a [u32],

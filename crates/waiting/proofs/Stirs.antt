@@ -3,10 +3,9 @@ use Rattle.std.proofs.Common.{◌≡◌, ℕ, ◌<◌, ◌≤◌, List, [], ◌�
 use lib.Seq.{take-set-lt}
 use Rattle.std.specs.List.{swap}
 use Rattle.std.proofs.lemmas.List.{length-take-le, get_or-take, drop-set-lt}
-use Rattle.std.proofs.lemmas.List.Edits.{swap_is, length-swap, Swapped, swapped_from_swap}
+use Rattle.std.proofs.lemmas.List.Edits.{swap_is, length-swap}
 use Rattle.std.proofs.lemmas.List.Sorted.{IsPermutation-trans, IsPermutation-swap}
-use Rattle.waiting.specs.Waiting.{memory, handed, Stirred}
-use Rattle.waiting.specs.declared.list.Waiting.{Waiting}
+use Rattle.waiting.specs.Waiting.{Stirred}
 
 module _ {E : Type 0} where
   -- with an element for a default
@@ -31,21 +30,12 @@ module _ {E : Type 0} where
       drop-set-lt n (set (d ∷ xs) i (get_or (d ∷ xs) j d)) j (get_or (d ∷ xs) i d) hj ∙ drop-set-lt n (d ∷ xs) i (get_or (d ∷ xs) j d) hi
 
   -- one exchange more
-  pub stirred_swap : (w v u : Waiting E) (i j : ℕ) → Stirred w v → u.len ≡ v.len → memory u ≡ swap (memory v) i j → handed u ≡ handed v → i < v.len → j < v.len → Stirred w u
-  stirred_swap w v u i j s len after same hi hj =
-      let n = w.len in
-      let in_i : i < n = omega (arith, s.len) in
-      let in_j : j < n = omega (arith, s.len) in
-      let fits : n ≤ length (memory v) = omega (arith, s.len, v.within) in
-      let l = length-take-le n (memory v) fits in
+  pub stirred_swap : (n : ℕ) (xs ys zs : List E) (i j : ℕ) → n ≤ length xs → Stirred n xs ys → zs ≡ swap ys i j → i < n → j < n → Stirred n xs zs
+  stirred_swap n xs ys zs i j within s after hi hj =
+      let fits : n ≤ length ys = omega (arith, s.size) in
+      let l = length-take-le n ys fits in
       record {
-        len = len ∙ s.len;
-        size = ap length after ∙ (length-swap (memory v) i j ∙ s.size);
-        items = IsPermutation-trans _ _ _ s.items (IsPermutation-swap (take n (memory v)) (take n (memory u)) i j (omega arith) (omega arith) (ap (take n) after ∙ take_exchanged (memory v) n i j in_i in_j fits));
-        rest = ap (drop n) after ∙ (drop_exchanged (memory v) n i j in_i in_j ∙ s.rest);
-        home = same ∙ s.home;
+        size = ap length after ∙ (length-swap ys i j ∙ s.size);
+        items = IsPermutation-trans _ _ _ s.items (IsPermutation-swap (take n ys) (take n zs) i j (omega arith) (omega arith) (ap (take n) after ∙ take_exchanged ys n i j hi hj fits));
+        rest = ap (drop n) after ∙ (drop_exchanged ys n i j hi hj ∙ s.rest);
       }
-
-  -- by places
-  pub swapped : (v : Waiting E) (after : List E) (i j : ℕ) → after ≡ swap (memory v) i j → i < v.len → j < v.len → (d : E) → Swapped (λ k. get_or (memory v) k d) (λ k. get_or after k d) i j
-  swapped v after i j e hi hj d = swapped_from_swap (memory v) after i j d (omega (arith, v.within)) (omega (arith, v.within)) e

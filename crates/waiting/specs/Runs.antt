@@ -10,29 +10,30 @@ use Rattle.waiting.specs.declared.calls.Answer.TheVariants.{Pushed, Popped}
 use Rattle.waiting.specs.declared.calls.Call.{Call}
 use Rattle.waiting.specs.declared.calls.Call.TheVariants.{Push, Pop}
 use Rattle.waiting.specs.declared.list.Waiting.{Waiting}
+use Rattle.waiting.specs.declared.ranked.Ranked.{Ghosts}
 
 -- one call: its contract, from the list before it to the list after it
-abbrev pub Step : {E : Type 0} → (E → E → Bool) → Waiting E → Call E → Answer E → Waiting E → Type 0
-Step before w (Push e) (Pushed r) w' = PushAnswer before e w w' r
+abbrev pub Step : {E : Type 0} {ranked : Ghosts E} → (E → E → Bool) → Waiting E ranked → Call E → Answer E → Waiting E ranked → Type 0
+Step before w (Push e) (Pushed r) w' = PushAnswer e w w' r
 Step before w (Push e) (Popped o) w' = ⊥
 Step before w Pop (Pushed r) w' = ⊥
 Step before w Pop (Popped o) w' = PopAnswer before w w' o
 
 -- a list of calls, each on the list that the call before it left
-abbrev pub Runs : {E : Type 0} → (E → E → Bool) → Waiting E → List (Call E) → List (Answer E) → Waiting E → Type 0
+abbrev pub Runs : {E : Type 0} {ranked : Ghosts E} → (E → E → Bool) → Waiting E ranked → List (Call E) → List (Answer E) → Waiting E ranked → Type 0
 Runs before w [] [] w' = w ≡ w'
 Runs before w [] (a ∷ answers) w' = ⊥
 Runs before w (c ∷ calls) [] w' = ⊥
-Runs {E} before w (c ∷ calls) (a ∷ answers) w' = (m : Waiting E) × Step before w c a m × Runs before m calls answers w'
+Runs {E} {ranked} before w (c ∷ calls) (a ∷ answers) w' = (m : Waiting E ranked) × Step before w c a m × Runs before m calls answers w'
 
 -- the calls ran, and their answers stand in front
-pub record Ran {E : Type 0} (before : E → E → Bool) (calls : List (Call E)) (w : Waiting E) (answers : List (Answer E)) (w' : Waiting E) (answers' : List (Answer E)) : Type 0 where
+pub record Ran {E : Type 0} {ranked : Ghosts E} (before : E → E → Bool) (calls : List (Call E)) (w : Waiting E ranked) (answers : List (Answer E)) (w' : Waiting E ranked) (answers' : List (Answer E)) : Type 0 where
   pub room : length calls ≤ length answers
   pub runs : Runs before w calls (take (length calls) answers') w'
   pub rest : drop (length calls) answers' ≡ drop (length calls) answers
 
 -- the answers had too few places, and nothing changed
-pub record TooShort {E : Type 0} (x : Refusal) (calls : List (Call E)) (w : Waiting E) (answers : List (Answer E)) (w' : Waiting E) (answers' : List (Answer E)) : Type 0 where
+pub record TooShort {E : Type 0} {ranked : Ghosts E} (x : Refusal) (calls : List (Call E)) (w : Waiting E ranked) (answers : List (Answer E)) (w' : Waiting E ranked) (answers' : List (Answer E)) : Type 0 where
   pub why : x ≡ MemoryTooShort
   pub short : length answers < length calls
   pub len : w'.len ≡ w.len
@@ -40,7 +41,7 @@ pub record TooShort {E : Type 0} (x : Refusal) (calls : List (Call E)) (w : Wait
   pub unwritten : answers' ≡ answers
 
 -- what `serve` answers
-abbrev pub ServeAnswer : {E : Type 0} → (E → E → Bool) → List (Call E) → Waiting E → List (Answer E) → Waiting E → List (Answer E) → Result (Unit {0}) Refusal → Type 0
+abbrev pub ServeAnswer : {E : Type 0} {ranked : Ghosts E} → (E → E → Bool) → List (Call E) → Waiting E ranked → List (Answer E) → Waiting E ranked → List (Answer E) → Result (Unit {0}) Refusal → Type 0
 ServeAnswer before calls w answers w' answers' (Ok _) = Ran before calls w answers w' answers'
 ServeAnswer before calls w answers w' answers' (Err x) = TooShort x calls w answers w' answers'
 
@@ -79,7 +80,7 @@ came_out (Popped (Some e) ∷ answers) = e ∷ came_out answers
 came_out (Popped None ∷ answers) = came_out answers
 
 -- the calls with these answers, that left w', are the service on an empty bag
-pub record Served {E : Type 0} (before : E → E → Bool) (capacity : ℕ) (calls : List (Call E)) (answers : List (Answer E)) (w' : Waiting E) : Type 0 where
+pub record Served {E : Type 0} {ranked : Ghosts E} (before : E → E → Bool) (capacity : ℕ) (calls : List (Call E)) (answers : List (Answer E)) (w' : Waiting E ranked) : Type 0 where
   pub bag : List E
   pub serves : Serves before capacity [] calls answers bag
   -- what is left in the bag still waits
@@ -88,7 +89,7 @@ pub record Served {E : Type 0} (before : E → E → Bool) (capacity : ℕ) (cal
   pub kept : IsPermutation (went_in calls answers) (came_out answers ++ queued w')
 
 -- so it is for every list of calls, from every empty list
-abbrev pub LowestFirst : {E : Type 0} → (E → E → Bool) → Type 0
-LowestFirst {E} before =
-    (w w' : Waiting E) (calls : List (Call E)) (answers : List (Answer E)) → w.len ≡ 0 →
-    Runs before w calls answers w' → Served before (length (memory w)) calls answers w'
+abbrev pub LowestFirst : {E : Type 0} → Ghosts E → Type 0
+LowestFirst {E} ranked =
+    (w w' : Waiting E ranked) (calls : List (Call E)) (answers : List (Answer E)) → w.len ≡ 0 →
+    Runs ranked.before w calls answers w' → Served ranked.before (length (memory w)) calls answers w'

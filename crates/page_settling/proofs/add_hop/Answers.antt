@@ -2,7 +2,7 @@ use Rattle.std.proofs.Common.{◌<◌, ◌&&◌, ltb, sym, ap, ◌∙◌, arith}
 use Rattle.std.proofs.lemmas.Bool.{and_from, and_left, and_right, cond-true, cond-false, lt-ltb, le-ltb}
 use Rattle.std.proofs.lemmas.List.{set-get_or}
 use Rattle.masks.specs.Sets.{holds, including}
-use Rattle.page_settling.proofs.Fills.{filled_first, filled_write, filled_keep, filled_all}
+use Rattle.settling.proofs.Fills.{filled_first, filled_write, filled_keep, filled_all}
 use Rattle.page_settling.proofs.add_hop.Goals as goal
 use Rattle.page_settling.proofs.add_hop.Goals.{then-has, else-has}
 

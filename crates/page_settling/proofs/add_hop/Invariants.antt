@@ -1,5 +1,5 @@
 use Rattle.page_settling.specs.Hops.{set_with}
-use Rattle.page_settling.proofs.Fills.{Filled}
+use Rattle.settling.proofs.Fills.{Filled}
 use Rattle.page_settling.proofs.add_hop.Given as goal
 
 abbrev pub invariant-loop-d : goal.invariant-loop-d

@@ -2,7 +2,7 @@ use Rattle.std.proofs.Common.{get_or, Some, None, sym, refl, ◌∙◌, arith}
 use Rattle.std.proofs.lemmas.List.FromFn.{fill_by_all}
 use Rattle.std.proofs.lemmas.List.{get_or_past}
 use Rattle.settling.proofs.Trees.{all_none}
-use Rattle.page_settling.proofs.Fills.{filled_first, filled_write, filled_keep, filled_all}
+use Rattle.settling.proofs.Fills.{filled_first, filled_write, filled_keep, filled_all}
 use Rattle.page_settling.proofs.narrowed.Goals as goal
 use Rattle.page_settling.proofs.narrowed.Goals.{in-Some, in_default}
 

@@ -1,5 +1,5 @@
 use Rattle.std.proofs.Common.{get_or, None}
-use Rattle.page_settling.proofs.Fills.{Filled}
+use Rattle.settling.proofs.Fills.{Filled}
 use Rattle.page_settling.proofs.narrowed.Given as goal
 
 abbrev pub invariant-loop-d : goal.invariant-loop-d

@@ -10,7 +10,7 @@ returns-in-None g c =
     let N = network_of rule g.L.LinkCosts c.args.links.now in
     let sound = g.met.L.LinkCosts.sound c.args.links.now in
     record {
-      costs = λ d l. nothing_in rule c.args.row.now d ∙ sym (rest_unlinked N sound c.args.tree.now.root c.args.router d (sym c.in-None.ensures));
+      costs = λ d l. nothing_in rule c.args.row.now.costs.now d ∙ sym (rest_unlinked N sound c.args.tree.now.root c.args.router d (sym c.in-None.ensures));
       past = λ d _. holds_none d;
-      size = refl;
+      memory = record { same_memory = refl; same_length = refl };
     }

@@ -1,6 +1,5 @@
 use Rattle.std.proofs.Common.{◌+◌, set, sym, ap, ◌∙◌, subst, arith}
 use Rattle.std.proofs.lemmas.List.{get_or_read}
-use Rattle.entries.specs.Entry.{entry_before}
 use Rattle.squares.specs.Known.{costs_in, with_offer}
 use Rattle.search.specs.Steps.{entry, Step}
 use Rattle.search.proofs.Offers.{with_room, known_cost, no_cost, not_offered, not_taken, taken}
@@ -38,7 +37,7 @@ returns g c =
     let cost = c.in-Some.cost in
     subst (λ o. Step rule (with_offer rule (costs_in rule best known) to o) (to + 1) 1 best known w (set best to cost) c.with.result w') (sym c.in-Some.is)
     (taken rule best known w to g.met.C.Cost.lawful cost c.with.result w' (omega arith) (c.with.ensures.added (omega arith))
-    (with_room (entry_before rule.lower) (entry cost to) w w' c.push.result c.push.ensures.answer c.requires.room)
+    (with_room (entry cost to) w w' c.push.result c.push.ensures.answer c.requires.room)
     (λ a e. elim c.else-has.branch [
       | else-has-via-then-has+else-not-lower v ↦
           let at_to = get_or_read best to v.index-best-to.result c.requires.places.0 v.index-best-to.is rule.zero in

@@ -32,7 +32,7 @@ loop-entry-init g c =
     let list = c.new-list.result in
     let step = subst (λ z. Step rule (with_offer rule (costs_in rule cleared 0) root (Some z)) (root + 1) 1 cleared 0 list c.offer-known.new.best c.offer-known.result c.offer-known.new.list) c.zero.ensures c.offer-known.ensures in (
       running_first sound c.requires.inside _ refl (ap length c.new.ensures) (λ d l. get_or_append_left zeros rest rule.zero d (omega (arith, l, c.count.ensures, cleared_len))
-          ∙ all_made _ rule.zero (λ f x f' k. search rules) zeros _ _ c.fill_with.ensures.ran.1 d) made.len made.ordered room step,
+          ∙ all_made _ rule.zero (λ f x f' k. search rules) zeros _ _ c.fill_with.ensures.ran.1 d) made.len room step,
       refl,
     )
 

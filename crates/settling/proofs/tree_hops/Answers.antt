@@ -1,4 +1,4 @@
-use Rattle.std.proofs.Common.{get_or, sym, refl, subst, arith}
+use Rattle.std.proofs.Common.{sym, refl, subst, arith}
 use Rattle.settling.specs.Trees.{FathersFirst}
 use Rattle.settling.proofs.Trees.{all_none, hopped_more, hopped_all}
 use Rattle.settling.proofs.tree_hops.Goals as goal
@@ -10,12 +10,12 @@ pub hop_of-requires : goal.hop_of-requires
 hop_of-requires c =
     let first = subst (FathersFirst c.args.fathers.now c.args.root) (sym c.as_slice-router-items.ensures.value) c.requires in
     let at = c.loop-router.router-index in
-    (first.routers at (omega (arith, c.loop-router-test.true)), first.bounded (get_or c.as_slice-router-items.result.now at 0))
+    (omega (arith, c.from-d.ensures, first.routers at (omega (arith, c.loop-router-test.true))), first.bounded c.from-d.result)
 
 pub loop-router-preserved : goal.loop-router-preserved
 loop-router-preserved c =
     let first = subst (FathersFirst c.args.fathers.now c.args.root) (sym c.as_slice-router-items.ensures.value) c.requires in
-    hopped_more first c.loop-router.invariant (omega (arith, c.loop-router-test.true)) refl c.hop_of.ensures
+    hopped_more first c.loop-router.invariant (omega (arith, c.loop-router-test.true)) (sym c.from-d.ensures) c.hop_of.ensures
 
 pub returns : goal.returns
 returns c =

@@ -6,11 +6,11 @@ use Rattle.waiting.proofs.list.Waiting.pop.Goals as goal
 
 pub returns : goal.returns
 returns g c =
-    let s = c.sift_down.ensures in
+    let s = c.close_up.ensures in
     let w = c.args.self.now in
     let some : 0 < w.len = omega arith in
     let there : 0 < length (memory w) = omega (arith, w.within) in
     record {
-      answer = popped g.met.E.Ranked.ordered w _ c.sift_down.new.self _ some c.swap.ensures.after refl (get_or_default (memory w) 0 _ _ there) s.stirred s.heaped;
-      handed = s.stirred.home;
+      answer = popped g.met.E.Ranked.ordered w _ _ _ some refl refl (get_or_default (memory w) 0 _ _ there) w.heaped s.stirred;
+      handed = refl;
     }

@@ -6,6 +6,6 @@ pub returns : goal.returns
 returns g c =
     let s = c.sift_up.ensures in
     record {
-      answer = pushed g.met.E.Ranked.ordered c.args.self.now _ c.sift_up.new.self c.args.e c.if-at-self.false refl refl s.stirred s.heaped;
-      handed = s.stirred.home;
+      answer = pushed c.args.self.now _ c.args.e c.if-at-self.false refl s.stirred;
+      handed = refl;
     }
