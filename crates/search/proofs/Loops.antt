@@ -24,6 +24,7 @@ use Rattle.waiting.specs.Waiting.{memory, queued, Popped}
 use Rattle.waiting.specs.declared.list.Waiting.{Waiting}
 use Rattle.waiting.specs.declared.ranked.Ranked.{Ghosts}
 use Rattle.squares.specs.Found.{NearestFirst, Searched}
+use Rattle.squares.specs.Sequences.{items}
 use Rattle.squares.specs.Known.{costs_in, with_offer, Short}
 use Rattle.squares.specs.declared.found.Found.{Found}
 use Rattle.search.specs.Steps.{entry, AboveKnown, Waits, Step, Marked}
@@ -48,7 +49,7 @@ pub record Running {C : Type 0} {ranked : Ghosts (Entry C)} (N : Network C) (roo
   pub room : w.len + left N.count marks.known ≤ N.count * N.count + 1
   pub size : N.count * N.count ≤ length (memory w)
   pub absent : (d : ℕ) → d < N.count → holds known d ≡ false → get_or best d N.rule.zero ≡ N.rule.zero
-  pub line : InLine N (holds marks.known) (costs_in N.rule best known) marks.order.items
+  pub line : InLine N (holds marks.known) (costs_in N.rule best known) (items marks.order)
 
 -- an element besides the first
 has_rest : {X : Type 0} (e : X) (xs : List X) (y : X) → (e ≡ y → ⊥) → ContainsAt (e ∷ xs) y → ContainsAt xs y
@@ -80,7 +81,7 @@ module _ {C : Type 0} {N : Network C} {root : ℕ} (sound : Sound N) (inside : r
   settles = settling_steps_lem C N sound root inside
 
   -- the root alone waits
-  module _ {ranked : Ghosts (Entry C)} {best best' : List C} {known' : ℕ} {w w' : Waiting (Entry C) ranked} (marks : Found) (none : marks.known ≡ 0) (empty : length marks.order.items ≡ 0)
+  module _ {ranked : Ghosts (Entry C)} {best best' : List C} {known' : ℕ} {w w' : Waiting (Entry C) ranked} (marks : Found) (none : marks.known ≡ 0) (empty : length (items marks.order) ≡ 0)
       (zeros : (d : ℕ) → d < count → get_or best d rule.zero ≡ rule.zero)
       (clear : w.len ≡ 0) (long : count * count ≤ length (memory w))
       (s : Step rule (with_offer rule (costs_in rule best 0) root (Some rule.zero)) (root + 1) 1 best 0 w best' known' w') where
@@ -169,7 +170,7 @@ module _ {C : Type 0} {N : Network C} {root : ℕ} (sound : Sound N) (inside : r
         pub next_short : Short rule e.cost
         next_short = known_short N sound root inside done f run.settling e.router e.cost near.costs
 
-        pub few_marked : length marks.order.items < 32
+        pub few_marked : length (items marks.order) < 32
         few_marked = omega (arith, run.line.few, size_more count done (also done e.router) e.router (λ x. refl) router_inside new, size_most count (also done e.router), sound.few)
 
         module _ {marks' : Found} (m : Marked e.router marks marks') where
@@ -198,7 +199,7 @@ module _ {C : Type 0} {N : Network C} {root : ℕ} (sound : Sound N) (inside : r
                   size = omega (arith, s.size, run.size, out.size);
                   absent = λ d l u. let q = s.absent d u in q.1 ∙ run.absent d l q.0;
                   line = subst (InLine N (holds marks'.known) (costs_in rule best' known')) (sym m.order)
-                      (line_more N sound root done f e.router e.cost run.settling near router_inside (holds marks'.known) (costs_in rule best' known') m.done s.costs marks.order.items run.line);
+                      (line_more N sound root done f e.router e.cost run.settling near router_inside (holds marks'.known) (costs_in rule best' known') m.done s.costs (items marks.order) run.line);
                 }
 
             pub turn_less : w'.len + left count marks'.known < w.len + left count marks.known
@@ -238,24 +239,24 @@ module _ {C : Type 0} {N : Network C} {root : ℕ} (sound : Sound N) (inside : r
           (cases_Bool (holds known d))
 
       -- a router of the sequence has a best cost
-      costs_of : (i : ℕ) → i < length marks.order.items → (a : C) × (f (get_or marks.order.items i 0) ≡ Some a) × (get_or marks.order.items i 0 < count)
+      costs_of : (i : ℕ) → i < length (items marks.order) → (a : C) × (f (get_or (items marks.order) i 0) ≡ Some a) × (get_or (items marks.order) i 0 < count)
       costs_of i h =
-          let x = get_or marks.order.items i 0 in
+          let x = get_or (items marks.order) i 0 in
           let q = run.settling.known x (run.line.marked i h) in
           (q.0, q.1, known_inside N sound root inside done f run.settling x q.0 q.1)
 
-      ordered : NearestFirst N root marks.order.items
+      ordered : NearestFirst N root (items marks.order)
       unfolding below
       ordered =
           record {
             fits = omega (arith, run.line.few, size_most count done, sound.few);
-            reached = λ i h. let q = costs_of i h in (q.2, ap is_some (sym (found (get_or marks.order.items i 0) q.2) ∙ q.1));
+            reached = λ i h. let q = costs_of i h in (q.2, ap is_some (sym (found (get_or (items marks.order) i 0) q.2) ∙ q.1));
             each = λ d l t. let q = present_some (best_cost N root d) t in run.line.placed d (all_done d q.0 (found d l ∙ q.1));
             once = run.line.once;
             rising = λ i j h l.
                 let p = costs_of i (omega arith) in
                 let q = costs_of j l in
-                subst₂ (λ x y. below rule x y ≡ false) (sym q.1 ∙ found (get_or marks.order.items j 0) q.2) (sym p.1 ∙ found (get_or marks.order.items i 0) p.2)
+                subst₂ (λ x y. below rule x y ≡ false) (sym q.1 ∙ found (get_or (items marks.order) j 0) q.2) (sym p.1 ∙ found (get_or (items marks.order) i 0) p.2)
                 (run.line.rising i j h l p.0 q.0 p.1 q.1);
           }
 

@@ -7,6 +7,7 @@ use Rattle.masks.specs.Sets.{holds}
 use Rattle.routes.specs.Network.{Network}
 use Rattle.routes.specs.Settling.{also}
 use Rattle.squares.specs.Known.{costs_in}
+use Rattle.squares.specs.Sequences.{items}
 use Rattle.squares.specs.declared.found.Found.{Found}
 use Rattle.waiting.specs.Waiting.{memory, queued}
 use Rattle.waiting.specs.declared.list.Waiting.{Waiting}
@@ -50,4 +51,4 @@ pub record Step {C : Type 0} {ranked : Ghosts (Entry C)} (rule : Costs C) (f' : 
 -- one router more is done, and comes next in the sequence
 pub record Marked (router : ℕ) (old new : Found) : Type 0 where
   pub done : (k : ℕ) → holds new.known k ≡ also (holds old.known) router k
-  pub order : new.order.items ≡ old.order.items ++ router ∷ []
+  pub order : items new.order ≡ items old.order ++ router ∷ []

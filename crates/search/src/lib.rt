@@ -8,15 +8,14 @@ ghost use Rattle.waiting.specs.Waiting.{memory};
 ghost use Rattle.squares.specs.Meaning.{network_of};
 ghost use Rattle.squares.specs.Known.{Short, costs_in, with_offer};
 ghost use Rattle.squares.specs.Found.{Searched};
+ghost use Rattle.squares.specs.Sequences.{items};
 ghost use Rattle.search.specs.Steps.{CanGoOn, Ready, Step, Marked};
-ghost use Rattle.arrayvec.specs.ArrayVec.{array_vec_len};
 
-use arrayvec::ArrayVec;
 use costs::Cost;
 use entries::Entry;
 use masks::{has, with};
-pub use squares::Found;
-use squares::LinkCosts;
+pub use squares::{Found, found};
+use squares::{LinkCosts, Sequence};
 use waiting::Waiting;
 
 // A cost joined with that of a link, if there is one.
@@ -79,7 +78,7 @@ fn relax<C: Cost, L: LinkCosts<C>>(
 
 // Marks a router as done.
 fn mark(done: &mut Found, router: usize)
-    requires { (router < 32) × (array_vec_len done.old.order < 32) }
+    requires { (router < 32) × (length (items done.old.order) < 32) }
     ensures { Marked router done.old done.new }
 {
     done.order.push(router as u8);
@@ -103,7 +102,7 @@ pub fn search<C: Cost, L: LinkCosts<C>>(
     let mut known = offer(best, 0, &mut list, root, Some(C::zero()));
     let mut done = Found {
         known: 0,
-        order: ArrayVec::new(),
+        order: Sequence::new(),
     };
     while let Some(entry) = list.pop() {
         if !has(done.known, entry.router) {

@@ -1,7 +1,8 @@
 -- A list that is rewritten place after place.
-use Rattle.std.proofs.Common.{◌≡◌, ℕ, ◌+◌, ◌<◌, ◌≤◌, ◌≢◌, List, map, length, get_or, set, refl, ap, ◌∙◌, ⊎_elim, arith, below_more}
+use Rattle.std.proofs.Common.{◌≡◌, ℕ, ◌+◌, ◌-◌, ◌<◌, ◌≤◌, ◌≢◌, List, ◌++◌, map, length, get_or, set, take, drop, refl, ap, ◌∙◌, ⊎_elim, arith, below_more}
+use Rattle.std.proofs.Math.Seq.{length_front}
 use Rattle.std.proofs.lemmas.List.FromFn.{fill_by_all}
-use Rattle.std.proofs.lemmas.List.{length-set, get_or-set_same, get_or-set_other}
+use Rattle.std.proofs.lemmas.List.{length-set, length-take-le, get_or-set_same, get_or-set_other, get_or-drop, get_or_append_left, get_or-append_right}
 use Rattle.std.proofs.lemmas.Bool.{cases_lt}
 use Rattle.std.specs.List.{range_with_len}
 
@@ -45,3 +46,16 @@ module _ {X : Type 0} {f : ℕ → X} {z : X} {old new : List X} {i : ℕ} (h : 
   pub filled_all : (n : ℕ) → length old ≡ n → ((k : ℕ) → i ≤ k → get_or old k z ≡ f k) → new ≡ map f (range_with_len 0 n)
   filled_all n e same =
       fill_by_all f new n z (h.long ∙ e) (λ k _. ⊎_elim (λ (b : k < i). h.at k b) (λ b. h.past k b ∙ same k b) (cases_lt k i))
+
+-- The places of a front are written, and those behind it have what f says: the list has it everywhere.
+pub filled_front : {X : Type 0} {f : ℕ → X} {z : X} {new : List X} {i : ℕ} (n m : ℕ) (old : List X) → Filled f z (take n old) new i → n ≤ length old → length old ≡ m → n ≤ i →
+    ((k : ℕ) → n ≤ k → get_or old k z ≡ f k) → new ++ drop n old ≡ map f (range_with_len 0 m)
+filled_front {X} {f} {z} {new} n m old h fits e all same =
+    let cut : length new ≡ n = h.long ∙ length-take-le n old fits in
+    fill_by_all f (new ++ drop n old) m z (length_front old new n h.long ∙ e)
+    (λ k _. ⊎_elim
+    (λ (l : k < n). get_or_append_left new (drop n old) z k (omega arith) ∙ h.at k (omega arith))
+    (λ l.
+    let place : n + (k - n) ≡ k = omega arith in
+    get_or-append_right new (drop n old) n k z cut l ∙ get_or-drop n old (k - n) z ∙ ap (λ t. get_or old t z) place ∙ same k l)
+    (cases_lt k n))

@@ -7,13 +7,14 @@ use Rattle.routes.specs.Network.{Network}
 use Rattle.routes.specs.Routes.{avoids}
 use Rattle.routes.specs.Tree.{lowest_father, hop}
 use Rattle.squares.specs.Found.{NearestFirst}
+use Rattle.squares.specs.Sequences.{items}
 use Rattle.settling.specs.Trees.{CanJoin}
 use Rattle.settling.specs.declared.tree.Tree.{Tree}
 
 -- the fathers are the lowest, and the sequence goes by best cost
 pub record TreeKnown {C : Type 0} (N : Network C) (tree : Tree) : Type 0 where
   pub father : tree.father ≡ map (lowest_father N tree.root) (range_with_len 0 32)
-  pub order : NearestFirst N tree.root tree.found.order.items
+  pub order : NearestFirst N tree.root (items tree.found.order)
 
 -- the tree hops go by the lowest fathers
 abbrev pub HopsKnown : {C : Type 0} → Network C → Tree → Type 0

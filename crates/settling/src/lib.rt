@@ -8,6 +8,7 @@ ghost use Rattle.routes.specs.Settling.{started, climbed};
 ghost use Rattle.routes.specs.Transverse.{rest};
 ghost use Rattle.routes.specs.Tree.{lowest_father, fall};
 ghost use Rattle.squares.specs.Found.{Searched};
+ghost use Rattle.squares.specs.Sequences.{items};
 ghost use Rattle.squares.specs.Meaning.{network_of};
 ghost use Rattle.squares.specs.Known.{costs_in, with_offer};
 ghost use Rattle.settling.specs.Costs.{costs_of, SameMemory};
@@ -100,10 +101,8 @@ pub fn fathers<C: Cost, L: LinkCosts<C>>(
     ensures { result ≡ map (lowest_father (network_of C.Cost.costs L.LinkCosts links.now) root) (range_with_len 0 32) }
 {
     let mut fathers = [None; 32];
-    for (d, father) in fathers.iter_mut().enumerate() {
-        if d < links.count() {
-            *father = father_of(links, best, found.known, d);
-        }
+    for (d, father) in fathers[..links.count()].iter_mut().enumerate() {
+        *father = father_of(links, best, found.known, d);
     }
     fathers
 }
@@ -127,7 +126,7 @@ fn hop_of(
 
 // The tree hop of each router, along an order in which fathers stand before their children.
 pub fn tree_hops(fathers: &[Option<usize>; 32], root: usize, found: &Found) -> [Option<usize>; 32]
-    requires { FathersFirst fathers.now root found.now.order.items }
+    requires { FathersFirst fathers.now root (items found.now.order) }
     ensures { (h : ℕ → Option ℕ) → Hops fathers.now root h → result ≡ map h (range_with_len 0 32) }
 {
     let mut hops = [None; 32];

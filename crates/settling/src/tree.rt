@@ -10,7 +10,7 @@ use squares::Found;
 // of the links (`TreeKnown`) is asked by each pass and is no ghost field: it names the place of each router in the sequence,
 // which is data and no fact, and would have to be hidden there and found again in each proof. So links, tree and neighbour stay
 // three parameters of the passes.
-#[derive(Clone, Drop)]
+#[derive(Clone, Copy)]
 pub struct Tree {
     pub root: usize,
     pub found: Found,

@@ -4,4 +4,6 @@
 #[cfg(test)]
 mod agrees;
 #[cfg(test)]
+mod copies;
+#[cfg(test)]
 mod net_k;

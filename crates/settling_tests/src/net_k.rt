@@ -8,7 +8,7 @@ use pagetable::Page;
 use squares::{CostSquare, NumberSquare};
 
 // Net K has five routers. The number of the link from one to another stands at place from * 5 + to.
-const NUMBERS: [u32; 25] = [
+pub(crate) const NUMBERS: [u32; 25] = [
     0, 1, 3, 0, 0, 1, 0, 0, 2, 0, 3, 0, 0, 1, 0, 0, 2, 1, 0, 1, 0, 0, 0, 1, 0,
 ];
 

@@ -6,6 +6,7 @@ use Rattle.routes.specs.Leasts.{below}
 use Rattle.routes.specs.Lists.{when_some}
 use Rattle.routes.specs.Network.{Network}
 use Rattle.routes.specs.Routes.{best}
+use Rattle.squares.specs.Sequences.{items}
 use Rattle.squares.specs.declared.found.Found.{Found}
 
 -- costs as a memory holds them: the best cost of each router, the zero cost where there is none, and the rest of the memory as it was
@@ -25,4 +26,4 @@ pub record NearestFirst {C : Type 0} (N : Network C) (root : ℕ) (order : List 
 pub record Searched {C : Type 0} (N : Network C) (root : ℕ) (old new : List C) (r : Found) : Type 0 where
   pub memory : new ≡ best_memory N root old
   pub known : (d : ℕ) → holds r.known d ≡ (nat_lt d N.count && is_some (best N root d))
-  pub order : NearestFirst N root r.order.items
+  pub order : NearestFirst N root (items r.order)

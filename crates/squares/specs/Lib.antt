@@ -4,4 +4,5 @@ pub mod Chosen
 pub mod Squares
 pub mod Numbers
 pub mod Known
+pub mod Sequences
 pub mod Found

@@ -1,6 +1,7 @@
 use Rattle.std.proofs.Common.{◌≡◌, get_or, None, sym, ap, ◌∙◌, subst, arith}
 use Rattle.squares.proofs.Joins.{can_join}
 use Rattle.squares.specs.Meaning.{network_of}
+use Rattle.squares.specs.Sequences.{items}
 use Rattle.settling.specs.Costs.{costs_of}
 use Rattle.settling.specs.Rows.{to_father}
 use Rattle.settling.proofs.Memory.{same_row, same_more}
@@ -14,7 +15,7 @@ loop-router-init g c =
     let rule = g.C.Cost.costs in
     let N = network_of rule g.L.LinkCosts c.args.links.now in
     let sound = g.met.L.LinkCosts.sound c.args.links.now in
-    let order = c.args.tree.now.found.order.items in
+    let order = (items c.args.tree.now.found.order) in
     let f = costs_of rule c.args.row.now in
     let is : order ≡ c.into_iter-router-iterator.result.iter.rest.now = cc in
     (same_row, subst (ClimbingOn N c.args.tree.now.root c.args.neighbour order f) is (climbing_first N sound c.args.tree.now.root c.args.neighbour order f c.requires.starts))

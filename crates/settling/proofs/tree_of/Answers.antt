@@ -1,6 +1,7 @@
 use Rattle.std.proofs.Common.{sym, refl, subst}
 use Rattle.routes.specs.Tree.{lowest_father, hop}
 use Rattle.squares.specs.Meaning.{network_of}
+use Rattle.squares.specs.Sequences.{items}
 use Rattle.settling.specs.Trees.{Hops, FathersFirst}
 use Rattle.settling.proofs.Orders.{hops_table, fathers_first}
 use Rattle.settling.proofs.tree_of.Goals as goal
@@ -10,8 +11,8 @@ tree_hops-hop-requires g c =
     let rule = g.C.Cost.costs in
     let N = network_of rule g.L.LinkCosts c.args.links.now in
     let sound = g.met.L.LinkCosts.sound c.args.links.now in
-    subst (λ t. FathersFirst t c.args.root c.args.found.order.items) (sym c.fathers-father.ensures)
-    (fathers_first N sound c.args.root c.args.found.order.items c.requires.left.order)
+    subst (λ t. FathersFirst t c.args.root (items c.args.found.order)) (sym c.fathers-father.ensures)
+    (fathers_first N sound c.args.root (items c.args.found.order) c.requires.left.order)
 
 pub returns : goal.returns
 returns g c =
