@@ -18,10 +18,8 @@ pub(crate) fn read_links<T: LinkTable>(table: &T) -> [u32; 1024]
 {
     let count = table.count();
     let mut numbers = [0; 1024];
-    for (place, number) in numbers.iter_mut().enumerate() {
-        if place < count * count {
-            *number = shown_number(table, place / count, place % count);
-        }
+    for (place, number) in numbers[..count * count].iter_mut().enumerate() {
+        *number = shown_number(table, place / count, place % count);
     }
     numbers
 }

@@ -3,7 +3,7 @@ ghost use Rattle.area.specs.Areas.{walk_answer, walk_leaves};
 ghost use Rattle.area.specs.Meaning.{area_of};
 
 use crate::area::Area;
-use crate::checks::{check, check_route, refused};
+use crate::checks::{check, refused};
 use costs::Cost;
 use faults::{Fault, Refusal};
 use tables::LinkTable;
@@ -27,7 +27,10 @@ impl<C: Cost, T: LinkTable> Area<C, T> {
         check(trail.len() >= count, Refusal::MemoryTooShort)?;
         check(picks.len() >= count - 1, Refusal::TooFewPicks)?;
         check(self.pages.all_current(count), Refusal::StalePage)?;
-        check_route(&self.pages.page(from), from, to)?;
+        check(
+            to == from || self.pages.page(from).father_of(to).is_some(),
+            Refusal::NoRoute,
+        )?;
         let hops = self.pages.walk(count, from, to, picks, trail);
         if trail[hops] == to {
             Ok(hops)

@@ -10,7 +10,7 @@ use masks::has;
 use memory::write;
 
 // Adds one number to a list, behind a comma unless it is the first.
-fn push_item(text: &mut ArrayString<96>, n: u32)
+fn push_item(text: &mut ArrayString<96>, digits: &mut Buffer, n: u32)
     requires number { n < 100 }
     requires room { length text.old.bytes + 3 ≤ 96 }
     ensures item { text.new.bytes ≡ text.old.bytes ++ item (length text.old.bytes == 0) n }
@@ -19,7 +19,6 @@ fn push_item(text: &mut ArrayString<96>, n: u32)
     if !text.is_empty() {
         text.push(',');
     }
-    let mut digits = Buffer::new();
     text.push_str(digits.format(n));
 }
 
@@ -28,9 +27,10 @@ fn list(mask: u32) -> ArrayString<96>
     ensures { result.bytes ≡ listed (members mask 32) }
 {
     let mut text = ArrayString::<96>::new();
+    let mut digits = Buffer::new();
     for v in 0..32 {
         if has(mask, v) {
-            push_item(&mut text, v as u32);
+            push_item(&mut text, &mut digits, v as u32);
         }
     }
     text

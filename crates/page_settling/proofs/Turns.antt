@@ -94,14 +94,14 @@ module _ {C : Type 0} (N : Network C) (sound : Sound N) (root : ℕ) {memory : L
     next n = put_mid (v * n) ((v + 1) * n - v * n) now row
 
     pub entered_more : (n : ℕ) → n ≡ N.count → (cs' vs' : List ℕ) → row ≡ rest_row N root v →
-        cs' ≡ map (set_with 32 reached v cs) (range_with_len 0 32) → vs' ≡ map (set_with 32 near v vs) (range_with_len 0 32) → Entered N root old (next n) cs' vs' (v + 1)
+        cs' ≡ map (set_with n reached v cs) (range_with_len 0 32) → vs' ≡ map (set_with n near v vs) (range_with_len 0 32) → Entered N root old (next n) cs' vs' (v + 1)
     entered_more n en cs' vs' is ec ev =
         let long : length (rest_row N root v) ≡ N.count = length-map-range_with_len _ 0 N.count in
         let end = row_end v N.count in
         let small : v < 32 = omega (arith, sound.few) in
         record {
-          candidates = ec ∙ sets_more 32 reached v (λ x d. is_some (rest N (lowest_father N) root x d)) (omega arith) small (λ d _. candidate_here d) (λ d k. candidate_past N sound root v d (omega (arith, k, sound.few))) cs h.candidates;
-          valid = ev ∙ sets_more 32 near v (valid N (lowest_father N) root) (omega arith) small (λ d _. valid_here d) (λ d k. valid_past N sound root v d (omega (arith, k, sound.few))) vs h.valid;
+          candidates = ec ∙ sets_more n reached v (λ x d. is_some (rest N (lowest_father N) root x d)) (omega (arith, sound.few)) small (λ d _. candidate_here d) (λ d k. candidate_past N sound root v d (omega arith)) cs h.candidates;
+          valid = ev ∙ sets_more n near v (valid N (lowest_father N) root) (omega (arith, sound.few)) small (λ d _. valid_here d) (λ d k. valid_past N sound root v d (omega arith)) vs h.valid;
           rows = subst (λ k. Holds old (next k) 0 ((v + 1) * N.count) (gather (v + 1) (rest_row N root))) (sym en)
               (subst (Holds old (next N.count) 0 ((v + 1) * N.count)) (sym (gather_more v (rest_row N root)))
               (holds_more old now (next N.count) 0 (v * N.count) ((v + 1) * N.count) (gather v (rest_row N root)) (rest_row N root v) h.rows

@@ -131,11 +131,12 @@ fn reach_of<C: Cost, L: LinkCosts<C>>(
     (row.reached, near)
 }
 
-// Adds a hop to the set of each chosen router.
-fn add_hop(sets: &mut [u32; 32], chosen: u32, hop: usize)
-    ensures { sets.new ≡ map (set_with 32 chosen hop sets.old) (range_with_len 0 32) }
+// Adds a hop to the set of each router that is chosen, of so many routers.
+fn add_hop(sets: &mut [u32; 32], count: usize, chosen: u32, hop: usize)
+    requires { count ≤ 32 }
+    ensures { sets.new ≡ map (set_with count chosen hop sets.old) (range_with_len 0 32) }
 {
-    for (d, set) in sets.iter_mut().enumerate() {
+    for (d, set) in sets[..count].iter_mut().enumerate() {
         if has(chosen, d) {
             *set = with(*set, hop);
         }
@@ -159,8 +160,8 @@ fn hop_sets<C: Cost, L: LinkCosts<C>>(links: &L, tree: &Tree, best: &[C], rest: 
     for v in 0..count {
         let costs = &mut rest[v * count..(v + 1) * count];
         let (reached, near) = reach_of(links, tree, best, v, costs);
-        add_hop(&mut candidates, reached, v);
-        add_hop(&mut valid, near, v);
+        add_hop(&mut candidates, count, reached, v);
+        add_hop(&mut valid, count, near, v);
     }
     Sets { candidates, valid }
 }

@@ -1,4 +1,4 @@
-use Rattle.std.proofs.Common.{◌+◌, ◌≤◌, [], ◌∷◌, length, ap, arith, length-append}
+use Rattle.std.proofs.Common.{◌+◌, ◌≤◌, length, ap, arith, length-append}
 use Rattle.decimals.proofs.NumberLaws.{two_digits}
 use Rattle.decimals.proofs.sets.push_item.Goals as goal
 use Rattle.decimals.proofs.sets.push_item.Goals.{After-format, then-not-is_empty, else-not-is_empty}
