@@ -7,5 +7,4 @@ pub mod output;
 pub mod reporting;
 pub mod rooms;
 
-pub use output::print_pages;
-pub use summary::LONGEST_INPUT;
+pub use output::{LONGEST_INPUT, print_pages};

@@ -10,6 +10,7 @@ use area::Area;
 use costs::{Cost, PathCost};
 use records::{Record, Records};
 use std::alloc::{AllocError, Global};
+pub use summary::LONGEST_INPUT;
 use summary::{RuleName, check_length};
 use tables::LinkTable;
 

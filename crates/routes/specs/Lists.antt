@@ -1,5 +1,6 @@
 -- Lists and choices over the numbers below a bound.
 use Rattle.std.specs.Prelude.{ℕ, zero, suc, Bool, false, cond, List, [], ◌∷◌, ◌++◌, Some, None, Option, ◌==◌}
+use Rattle.masks.specs.Sets as sets
 
 -- the lists of 0 to n - 1, one after the other
 unfoldable pub gather : {A : Type 0} → ℕ → (ℕ → List A) → List A
@@ -10,6 +11,10 @@ gather (suc n) f = gather n f ++ f n
 unfoldable pub lowest : ℕ → (ℕ → Bool) → Option ℕ
 lowest zero p = None
 lowest (suc n) p = elim (lowest n p) [ Some x ↦ Some x | None ↦ cond (p n) (Some n) None ]
+
+-- the set of the numbers below n that pass the test, as a mask: that of `masks`
+abbrev pub mask : ℕ → (ℕ → Bool) → ℕ
+mask n p = sets.mask n p
 
 -- what to make of a value that may be absent
 abbrev pub when_some : {A B : Type 0} → Option A → B → (A → B) → B
