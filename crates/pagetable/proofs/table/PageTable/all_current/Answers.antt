@@ -6,5 +6,5 @@ use Rattle.pagetable.proofs.table.PageTable.all_current.Goals as goal
 
 pub returns : goal.returns
 returns c =
-    all_from_yields_List (λ b. b) _ _ c.all.result c.all.ensures.ran (YieldsList-from_slice (take c.args.count c.args.self.now.current) cc) (λ x b q k. search (rules, tests))
+    all_from_yields_List (λ b. b) _ _ c.all.result c.all.ensures.ran (YieldsList-from_slice (take c.args.count c.args.self.now.current) (search rules)) (λ x b q k. search (rules, tests))
     ∙ all_marked c.args.self.now c.args.count (search rules)
