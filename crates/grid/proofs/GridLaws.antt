@@ -65,14 +65,14 @@ module _ (cells : List ℕ) (c from to i : ℕ) (p : PlacedIn cells (grid_count 
   abbrev n : ℕ
   n = grid_count (length cells) c
 
-  pair_ok : pair_refusal (grid_table cells c).count from to ≡ None
+  pub pair_ok : pair_refusal (grid_table cells c).count from to ≡ None
   pair_ok = pair_granted n from to p.2 p.3 p.4
 
   abbrev room_by : Option ℕ → Option Refusal
   room_by o = cond (is_some o) None (cond (eqb (size (grid_table cells c).kept (grid_table cells c).count) (grid_table cells c).limit) (Some Full) None)
 
   -- a grid always has room
-  room_granted : room_refusal (grid_table cells c).count (grid_table cells c).limit (grid_table cells c).kept from to ≡ None
+  pub room_granted : room_refusal (grid_table cells c).count (grid_table cells c).limit (grid_table cells c).kept from to ≡ None
   room_granted = go ((grid_table cells c).kept from to) refl
     where
       go : (o : Option ℕ) → (grid_table cells c).kept from to ≡ o → room_refusal (grid_table cells c).count (grid_table cells c).limit (grid_table cells c).kept from to ≡ None
@@ -82,7 +82,7 @@ module _ (cells : List ℕ) (c from to i : ℕ) (p : PlacedIn cells (grid_count 
           ap room_by q ∙ cond-false (eqb (size (grid_table cells c).kept (grid_table cells c).count) (grid_table cells c).limit) _ _ (ne_eqb _ _ (omega arith))
 
   -- a cell written is a call granted
-  grid_changes : (refusal : Option Refusal) (number : Option ℕ) (v : ℕ) → refusal ≡ None → cell_number v ≡ number → Changed refusal from to number (grid_table cells c) (grid_table (set cells i v) c)
+  pub grid_changes : (refusal : Option Refusal) (number : Option ℕ) (v : ℕ) → refusal ≡ None → cell_number v ≡ number → Changed refusal from to number (grid_table cells c) (grid_table (set cells i v) c)
   grid_changes refusal number v g q =
       let counts : grid_count (length (set cells i v)) c ≡ n = ap (λ k. grid_count k c) (length-set cells i v) in
       let links : grid_links (set cells i v) (grid_count (length (set cells i v)) c) ≡ with_link (grid_links cells n) from to number =

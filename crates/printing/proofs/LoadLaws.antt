@@ -33,7 +33,7 @@ module _ {C : Type 0} (k : Costs C) (title : List ℕ) (n : ℕ) (text : List �
   same = ap (λ t. loaded k title t text) empty
 
   -- the answer of the load says what is told
-  answer_told : told k n whole r ≡ file_output k title n text
+  pub answer_told : told k n whole r ≡ file_output k title n text
   answer_told = ap (told k n whole) (loads.answer ∙ ap (λ (l : Loaded). l.answer) same)
 
   -- the list that is left shows what it keeps

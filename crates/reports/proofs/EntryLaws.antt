@@ -87,7 +87,7 @@ module _ (page : Page) (d : ℕ) (hops : Option ℕ × ℕ × ℕ) (is : hops �
   unfolding entry_text
   entry_parts = ap (λ t. to_line d ++ tree_line (get_or page.hop d None) ++ valid_line t.1 ++ other_line t.2) is
 
-  length_entry : length (entry_text page d) ≡ length (to_line d) + length (tree_line (get_or page.hop d None)) + length (valid_line hops.1) + length (other_line hops.2)
+  pub length_entry : length (entry_text page d) ≡ length (to_line d) + length (tree_line (get_or page.hop d None)) + length (valid_line hops.1) + length (other_line hops.2)
   length_entry = sym (ap length entry_parts) ∙ simp length-append
 
   pub entry_bound : d < 32 → length (tree_text (get_or page.hop d None)) ≤ 3 → length (entry_text page d) ≤ 125

@@ -96,7 +96,7 @@ module _ (text : List ℕ) where
       let m : how_many (list_all third) ≡ Ok s.directions = ap how_many all ∙ ap Ok f.counted in
       λ i. summary_by (c i) (n i) (m i)
 
-granted_exactly : (text : List ℕ) → GrantedExactly text (summary text)
+pub granted_exactly : (text : List ℕ) → GrantedExactly text (summary text)
 granted_exactly text = record { granted = file_sound text; files = file_complete text }
 
 -- an answer that is the summary is granted exactly
